@@ -1,0 +1,5 @@
+pub mod Refusal
+pub mod Suite
+pub mod SetName
+pub mod Tree
+pub mod RecordBytes

@@ -1,0 +1,17 @@
+//! Datasets by name: their names, the tree that they stand in, and the enums that every crate of the keystore shares.
+#![tactic(auto)]
+
+mod kinds;
+mod name;
+mod record;
+mod refusal;
+mod tree;
+
+pub use kinds::{Format, Kind, Suite};
+pub use name::SetName;
+pub use record::RecordBytes;
+pub use refusal::{MaterialFault, NoMemory, Refusal, Stop};
+pub use tree::{Row, Tree};
+
+#[cfg(test)]
+mod tests;

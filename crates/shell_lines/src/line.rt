@@ -1,0 +1,65 @@
+// What the lines of a script say.
+ghost use Rattle.std.specs.Prelude.{◌≡◌, IfOk};
+ghost use Rattle.shell_lines.specs.declared.line.LineStop.TheVariants.{NoMemory as OutOfMemory};
+
+use std::alloc::{AllocError, Global};
+use std::marker::Model;
+
+/// A word of a line, as it stands there: contracts see its bytes.
+#[derive(Debug, Drop)]
+pub struct Word {
+    bytes: Vec<u8>,
+}
+
+impl Model for Word {
+    ghost use Rattle.std.specs.Prelude.{List, ℕ};
+
+    ghost Value = { List ℕ };
+
+    ghost view = { λ word. word.bytes.items };
+}
+
+impl Word {
+    /// A copy of a word that stands in a line.
+    pub(crate) fn from_slice(alloc: Global, bytes: &[u8]) -> Result<Word, AllocError>
+        ensures { IfOk result (λ word. word ≡ bytes.now) }
+    {
+        let bytes = Vec::from_slice(alloc, bytes)?;
+        Ok(Word { bytes })
+    }
+
+    /// The word's bytes.
+    pub fn as_bytes(&self) -> &[u8]
+        ensures { result.now ≡ self.now }
+    {
+        self.bytes.as_slice()
+    }
+}
+
+/// A line of the language.
+#[derive(Debug, Drop)]
+pub enum Line {
+    /// A line without words, or one that begins with `#` or `<`.
+    Silent,
+    /// `create NAME`
+    Create { name: Word },
+    /// `list`
+    List,
+}
+
+/// Why some bytes are no line.
+#[derive(Clone, Copy, Debug, PartialEq, Eq)]
+pub enum LineStop {
+    /// They spell no line of the language: what stands at this offset can't stand there.
+    Bad { at: u32 },
+    /// An allocation was refused.
+    NoMemory,
+}
+
+impl From<AllocError> for LineStop {
+    ghost from_gives = { λ _ stop. stop ≡ OutOfMemory };
+
+    fn from(_error: AllocError) -> LineStop {
+        LineStop::NoMemory
+    }
+}
