@@ -1,0 +1,351 @@
+-- One line of a run, and many.
+use Rattle.std.proofs.Common.{◌≡◌, ◌⊎◌, ℕ, ◌+◌, ◌<◌, ◌≤◌, nat_lt, Bool, true, false, List, [], ◌∷◌, ◌++◌, length, Option, Some, None, Result, Ok, Err, IfSome, IsSomeAnd, OnOk, refl, ap, sym, ◌∙◌, subst, append_assoc, arith, inl, inr, ⊎_elim}
+use Rattle.std.specs.Io.KnownBytes.{Appends}
+use Rattle.std.specs.Option.{option_to_list, option_map}
+use Rattle.std.proofs.lemmas.Bool.Decides.{nat_tests}
+use Rattle.dataset_tree.specs.Tree.{Datasets}
+use Rattle.edge_io.specs.Faults.{HasCause, Rose}
+use Rattle.edge_io.specs.Told.{unread}
+use Rattle.edge_io.specs.Lines.{lines, first_line, next_line, rest_of}
+use Rattle.edge_io.proofs.LinesLemmas.{lines_next}
+use Rattle.edge_io.specs.declared.errors.Failed.{Failed}
+use Rattle.shell_lines.specs.declared.line.Line.{Line}
+use Rattle.shell_lines.specs.Grammar.{line_of}
+use Rattle.shell_run.specs.declared.ending.Ending.{Ending}
+use Rattle.shell_run.specs.declared.ending.Ending.TheVariants.{Done, Usage, BadLine, ReadFault, WriteFault, NoMemory}
+use Rattle.shell_run.specs.Answers.{AnswersTo}
+use Rattle.shell_run.specs.Endings.{EndsAs, SinkFaults, status_of, closing_line, ClosesAs}
+use Rattle.shell_run.specs.Progress.{Goes, Ends, Taken, Took, TookFront, Closes, TakesLine, TakesNone, Replied, LineRan}
+use Rattle.shell_run.specs.Texts.{bad_line, usage_line, read_fault_line, no_memory_line}
+use Rattle.shell_run.specs.Transcript.{Run, preceded, goes_on, checked, run_from, answer_of}
+use Rattle.shell_run.specs.Written.{IsFront, IsAnswered, Wrote, last_line}
+use Rattle.shell_run.proofs.WritingLemmas.{append_nil, Appends-nil, Appends-append, Took-after, Took-kept, Took-from_Appends}
+
+-- taking a line
+
+pub takes_line : (told left : Option (List ℕ)) (line : List ℕ) → IfSome told (λ bytes. Some line ≡ next_line bytes) → IfSome told (λ bytes. left ≡ Some (rest_of bytes))
+    → IfSome told (λ bytes. TakesLine line bytes left)
+takes_line None left line next rest = tt
+takes_line (Some bytes) left line next rest = rw rest (lines_next bytes ∙ rw (← next) refl)
+
+too_long : (bytes : List ℕ) → 65536 < length (first_line bytes) → (line : List ℕ) × (rest : List (List ℕ)) × (lines bytes ≡ line ∷ rest) × (65536 < length line)
+too_long [] long = absurd (omega arith)
+too_long (byte ∷ bytes) long = (first_line (byte ∷ bytes), lines (rest_of (byte ∷ bytes)), lines_next (byte ∷ bytes), long)
+
+pub takes_none : (told left : Option (List ℕ)) (number at : ℕ) → at ≡ 65536 → IfSome told (λ bytes. 65536 < length (first_line bytes))
+    → IfSome told (λ bytes. TakesNone (BadLine number at) number bytes left)
+takes_none None left number at e long = tt
+takes_none (Some bytes) left number at e long = let found = too_long bytes long in (refl, e, found.0, found.1, found.2, found.3)
+
+-- writing the closing line
+
+pub closes : (r : Result (Unit {0}) Failed) (line : List ℕ) (t0 t1 : Option (List ℕ)) (before now : ℕ) → OnOk r (Appends t0 t1 line) → TookFront line t0 t1 → HasCause before now r
+    → Closes line (Rose before now) t0 t1
+closes (Ok done) line t0 t1 before now written part cause = record { part = line; taken = Took-from_Appends t0 t1 line written; front = ([], append_nil line); whole = inl refl }
+closes (Err failed) line t0 t1 before now written part cause = record { part = part.part; taken = part.taken; front = part.front; whole = inr cause.failed }
+
+-- answering a line
+
+pub replied_all : (n : ℕ) (o : Result Line ℕ) (old new : Datasets) (reply : List ℕ) (t0 t1 : Option (List ℕ)) → AnswersTo n o old new [] reply (Ok tt) → Appends t0 t1 reply
+    → Replied None n o old new t0 t1
+replied_all n (Ok line) old new reply t0 t1 answered written =
+    let P : List ℕ → Type 0 = λ bytes. Appends t0 t1 bytes in (answered.0, subst P answered.1 written)
+replied_all n (Err at) old new reply t0 t1 answered written = absurd answered
+
+pub replied_part : (n : ℕ) (o : Result Line ℕ) (old new : Datasets) (reply : List ℕ) (t0 t1 : Option (List ℕ)) → AnswersTo n o old new [] reply (Ok tt) → TookFront reply t0 t1
+    → Replied (Some WriteFault) n o old new t0 t1
+replied_part n (Ok line) old new reply t0 t1 answered part =
+    let P : List ℕ → Type 0 = λ bytes. TookFront bytes t0 t1 in subst P answered.1 part
+replied_part n (Err at) old new reply t0 t1 answered part = absurd answered
+
+-- from a line to the rest of the run
+
+took_nothing : (t0 t1 : Option (List ℕ)) → t1 ≡ t0 → Appends t0 t1 []
+took_nothing t0 t1 e = let P : Option (List ℕ) → Type 0 = λ t. Appends t0 t [] in subst P (sym e) (Appends-nil t0)
+
+checked_line : (n : ℕ) (line : List ℕ) → n ≤ 1048576 → length line ≤ 65536 → checked n line ≡ line_of line 0
+checked_line n line few short =
+    let within : nat_lt 1048576 n ≡ false = grind (arith, nat_tests) in
+    let fits : nat_lt 65536 (length line) ≡ false = grind (arith, nat_tests) in
+    rw (within, fits) refl
+
+one_line_goes : (n : ℕ) (o : Result Line ℕ) (rest : Datasets → Run) (old new : Datasets) (t0 t1 : Option (List ℕ)) → Replied None n o old new t0 t1
+    → Goes (goes_on n old o rest) (rest new) t0 t1
+one_line_goes n (Ok line) rest old new t0 t1 replied = record {
+  replies = (answer_of n old line).output;
+  taken = replied.1;
+  goes_on = ap (λ t. preceded (answer_of n old line).output (rest t)) (sym replied.0);
+}
+one_line_goes n (Err at) rest old new t0 t1 replied = absurd replied
+
+one_line_ends : (e : Ending) (n : ℕ) (o : Result Line ℕ) (rest : Datasets → Run) (old new : Datasets) (t0 t1 : Option (List ℕ)) → Replied (Some e) n o old new t0 t1
+    → Ends e (goes_on n old o rest) t0 t1
+one_line_ends Done n o rest old new t0 t1 replied = absurd replied
+one_line_ends Usage n o rest old new t0 t1 replied = absurd replied
+one_line_ends ReadFault n o rest old new t0 t1 replied = absurd replied
+one_line_ends WriteFault n (Ok line) rest old new t0 t1 replied = record {
+  replies = replied.part;
+  taken = replied.taken;
+  ends =
+    let after : List ℕ = (rest (answer_of n old line).datasets).replies in
+    (replied.front.0 ++ after, ap (λ bytes. bytes ++ after) replied.front.1 ∙ append_assoc replied.part replied.front.0 after);
+}
+one_line_ends WriteFault n (Err at) rest old new t0 t1 replied = absurd replied
+one_line_ends NoMemory n o rest old new t0 t1 replied = record { replies = []; taken = took_nothing t0 t1 replied; ends = ((goes_on n old o rest).replies, refl) }
+one_line_ends (BadLine number at) n o rest old new t0 t1 replied = record {
+  replies = [];
+  taken = took_nothing t0 t1 replied.2;
+  ends =
+    let P : Result Line ℕ → Type 0 = λ outcome. goes_on n old outcome rest ≡ record { status = 3; replies = []; last = bad_line number at } in
+    subst P (sym replied.1) (ap (λ m. let run : Run = record { status = 3; replies = []; last = bad_line m at } in run) (sym replied.0));
+}
+
+pub line_ran : (told left : Option (List ℕ)) (n : ℕ) (line : List ℕ) (r : Option Ending) (old new : Datasets) (t0 t1 : Option (List ℕ)) → n ≤ 1048576 → length line ≤ 65536
+    → IfSome told (λ bytes. TakesLine line bytes left) → Replied r n (line_of line 0) old new t0 t1 → IfSome told (λ bytes. LineRan r n bytes left old new t0 t1)
+line_ran None left n line r old new t0 t1 few short takes replied = tt
+line_ran (Some bytes) None n line r old new t0 t1 few short takes replied = absurd takes
+line_ran (Some bytes) (Some rest) n line None old new t0 t1 few short takes replied =
+    rw (takes, checked_line n line few short) (one_line_goes n (line_of line 0) (run_from (n + 1) (lines rest)) old new t0 t1 replied)
+line_ran (Some bytes) (Some rest) n line (Some e) old new t0 t1 few short takes replied =
+    rw (takes, checked_line n line few short) (one_line_ends e n (line_of line 0) (run_from (n + 1) (lines rest)) old new t0 t1 replied)
+
+-- a run that goes on
+
+preceded_nothing : (run : Run) → run ≡ preceded [] run
+preceded_nothing run = refl
+
+pub goes_none : (run : Run) (t : Option (List ℕ)) → Goes run run t t
+goes_none run t = record { replies = []; taken = Appends-nil t; goes_on = preceded_nothing run }
+
+goes_more : (a b c : Run) (t0 t1 t2 : Option (List ℕ)) → Goes a b t0 t1 → Goes b c t1 t2 → Goes a c t0 t2
+goes_more a b c t0 t1 t2 p q = record {
+  replies = p.replies ++ q.replies;
+  taken = Appends-append t0 t1 t2 p.replies q.replies p.taken q.taken;
+  goes_on = p.goes_on ∙ ap (preceded p.replies) q.goes_on
+    ∙ ap (λ replies. let run : Run = record { status = c.status; replies = replies; last = c.last } in run) (sym (append_assoc p.replies q.replies c.replies));
+}
+
+precedes_end : (e : Ending) (b : Run) (front replies : List ℕ) → EndsAs e b replies → EndsAs e (preceded front b) (front ++ replies)
+precedes_end Done b front replies ends = ap (preceded front) ends
+precedes_end Usage b front replies ends = ap (preceded front) ends
+precedes_end (BadLine number at) b front replies ends = ap (preceded front) ends
+precedes_end ReadFault b front replies ends = (ends.0, ap (λ bytes. front ++ bytes) ends.1 ∙ sym (append_assoc front replies ends.0))
+precedes_end WriteFault b front replies ends = (ends.0, ap (λ bytes. front ++ bytes) ends.1 ∙ sym (append_assoc front replies ends.0))
+precedes_end NoMemory b front replies ends = (ends.0, ap (λ bytes. front ++ bytes) ends.1 ∙ sym (append_assoc front replies ends.0))
+
+taken_after : (e : Ending) (t0 t1 t2 : Option (List ℕ)) (a b : List ℕ) → Appends t0 t1 a → Taken e t1 t2 b → Taken e t0 t2 (a ++ b)
+taken_after WriteFault t0 t1 t2 a b p q = Took-after t0 t1 t2 a b p q
+taken_after Done t0 t1 t2 a b p q = Appends-append t0 t1 t2 a b p q
+taken_after Usage t0 t1 t2 a b p q = Appends-append t0 t1 t2 a b p q
+taken_after ReadFault t0 t1 t2 a b p q = Appends-append t0 t1 t2 a b p q
+taken_after NoMemory t0 t1 t2 a b p q = Appends-append t0 t1 t2 a b p q
+taken_after (BadLine number at) t0 t1 t2 a b p q = Appends-append t0 t1 t2 a b p q
+
+goes_ends : (e : Ending) (a b : Run) (t0 t1 t2 : Option (List ℕ)) → Goes a b t0 t1 → Ends e b t1 t2 → Ends e a t0 t2
+goes_ends e a b t0 t1 t2 p q = record {
+  replies = p.replies ++ q.replies;
+  taken = taken_after e t0 t1 t2 p.replies q.replies p.taken q.taken;
+  ends =
+    let P : Run → Type 0 = λ run. EndsAs e run (p.replies ++ q.replies) in
+    subst P (sym p.goes_on) (precedes_end e b p.replies q.replies q.ends);
+}
+
+-- a run from its first line on has come to line n, with these bytes unread
+pub record Reached (first n : ℕ) (told now : Option (List ℕ)) (old new : Datasets) (t0 t1 : Option (List ℕ)) : Type 0 where
+  pub goes : IfSome told (λ bytes. IsSomeAnd now (λ rest. Goes (run_from first (lines bytes) old) (run_from n (lines rest) new) t0 t1))
+
+pub reached_none : (first : ℕ) (told : Option (List ℕ)) (old : Datasets) (t : Option (List ℕ)) → Reached first first told told old old t t
+reached_none first None old t = record { goes = tt }
+reached_none first (Some bytes) old t = record { goes = goes_none (run_from first (lines bytes) old) t }
+
+pub reached_more : (first n : ℕ) (told now left : Option (List ℕ)) (a b c : Datasets) (t0 t1 t2 : Option (List ℕ)) → Reached first n told now a b t0 t1
+    → IfSome now (λ bytes. LineRan None n bytes left b c t1 t2) → Reached first (n + 1) told left a c t0 t2
+reached_more first n None now left a b c t0 t1 t2 p q = record { goes = tt }
+reached_more first n (Some bytes) None left a b c t0 t1 t2 p q = absurd p.goes
+reached_more first n (Some bytes) (Some rest) None a b c t0 t1 t2 p q = absurd q
+reached_more first n (Some bytes) (Some rest) (Some more) a b c t0 t1 t2 p q = record {
+  goes = goes_more (run_from first (lines bytes) a) (run_from n (lines rest) b) (run_from (n + 1) (lines more) c) t0 t1 t2 p.goes q;
+}
+
+pub reached_end : (e : Ending) (first n : ℕ) (told now left : Option (List ℕ)) (a b c : Datasets) (t0 t1 t2 : Option (List ℕ)) → Reached first n told now a b t0 t1
+    → IfSome now (λ bytes. LineRan (Some e) n bytes left b c t1 t2) → IfSome told (λ bytes. Ends e (run_from first (lines bytes) a) t0 t2)
+reached_end e first n None now left a b c t0 t1 t2 p q = tt
+reached_end e first n (Some bytes) None left a b c t0 t1 t2 p q = absurd p.goes
+reached_end e first n (Some bytes) (Some rest) left a b c t0 t1 t2 p q =
+    goes_ends e (run_from first (lines bytes) a) (run_from n (lines rest) b) t0 t1 t2 p.goes q
+
+-- a run that ends without a reply more
+pub reached_limit : (e : Ending) (first : ℕ) (told now : Option (List ℕ)) (a b : Datasets) (t0 t1 : Option (List ℕ)) → Reached first 1048577 told now a b t0 t1
+    → IfSome now (λ bytes. (t : Datasets) → EndsAs e (run_from 1048577 (lines bytes) t) []) → IfSome told (λ bytes. Ends e (run_from first (lines bytes) a) t0 t1)
+reached_limit e first None now a b t0 t1 p q = tt
+reached_limit e first (Some bytes) None a b t0 t1 p q = absurd p.goes
+reached_limit e first (Some bytes) (Some rest) a b t0 t1 p q =
+    goes_ends e (run_from first (lines bytes) a) (run_from 1048577 (lines rest) b) t0 t1 t1 p.goes (ends_here e t1 (run_from 1048577 (lines rest) b) (q b))
+  where
+    nothing_taken : (e : Ending) (t : Option (List ℕ)) → Taken e t t []
+    nothing_taken WriteFault t = Took-from_Appends t t [] (Appends-nil t)
+    nothing_taken Done t = Appends-nil t
+    nothing_taken Usage t = Appends-nil t
+    nothing_taken ReadFault t = Appends-nil t
+    nothing_taken NoMemory t = Appends-nil t
+    nothing_taken (BadLine number at) t = Appends-nil t
+
+    ends_here : (e : Ending) (t : Option (List ℕ)) (run : Run) → EndsAs e run [] → Ends e run t t
+    ends_here e t run ends = record { replies = []; taken = nothing_taken e t; ends = ends }
+
+-- past the last line that a script may have
+
+one_line_past : (line : List ℕ) (rest : List (List ℕ)) (bytes : List ℕ) (t : Datasets) → lines bytes ≡ line ∷ rest → EndsAs (BadLine 1048577 0) (run_from 1048577 (lines bytes) t) []
+one_line_past line rest bytes t e = rw e refl
+
+pub long_line_past : (told : Option (List ℕ)) → IfSome told (λ bytes. 65536 < length (first_line bytes)) → IfSome told (λ bytes. (t : Datasets) → EndsAs (BadLine 1048577 0) (run_from 1048577 (lines bytes) t) [])
+long_line_past None long = tt
+long_line_past (Some bytes) long = λ t. let found = too_long bytes long in one_line_past found.0 found.1 bytes t found.2
+
+pub nothing_replied : (run : Run) → IsFront [] run.replies
+nothing_replied run = (run.replies, refl)
+
+-- the end of a script that was read by a reader that began with nothing
+
+pub all_read : (pending : List ℕ) (left : Option (List ℕ)) → unread pending left ≡ Some [] → left ≡ Some []
+all_read pending None e = cc
+all_read [] (Some bytes) e = e
+all_read (byte ∷ pending) (Some bytes) e = cc
+
+-- the last line, behind the replies
+
+wrote_last : (run : Run) (status : ℕ) (rose : Type 0) (replies part line : List ℕ) (before : List ℕ) (t1 t2 : Option (List ℕ)) → Appends (Some before) t1 replies → Took t1 t2 part
+    → IsFront part line → (part ≡ line) ⊎ rose → line ≡ last_line status run → IsFront replies run.replies → (IsAnswered status → (run.status ≡ status) × (replies ≡ run.replies))
+    → IfSome t2 (λ after. Wrote run status rose before after)
+wrote_last run status rose replies part line before None t2 taken closed front whole same begun answered = absurd taken
+wrote_last run status rose replies part line before (Some mid) None taken closed front whole same begun answered = tt
+wrote_last run status rose replies part line before (Some mid) (Some after) taken closed front whole same begun answered =
+    let P : List ℕ → Type 0 = λ l. IsFront part l in
+    let Q : List ℕ → Type 0 = λ l. (part ≡ l) ⊎ rose in
+    record {
+      replies = replies;
+      last = part;
+      written = closed ∙ ap (λ bytes. bytes ++ part) taken;
+      begun = begun;
+      ended = subst P same front;
+      whole = subst Q same whole;
+      answered = answered;
+    }
+
+pub all_read_where_told : (e : Ending) (left now : Option (List ℕ)) (pending rest : List ℕ) → pending ≡ [] → (e ≡ Done → IfSome (unread pending left) (λ bytes. unread rest now ≡ Some [])) → e ≡ Done
+    → IfSome left (λ bytes. now ≡ Some [])
+all_read_where_told e None now pending rest none ends done = tt
+all_read_where_told e (Some bytes) now pending rest none ends done = all_read rest now (ends done)
+
+-- the whole run
+
+read_fault_unanswered : IsAnswered 4 → ⊥
+read_fault_unanswered h = grind arith
+
+write_fault_unanswered : IsAnswered 5 → ⊥
+write_fault_unanswered h = grind arith
+
+no_memory_unanswered : IsAnswered 12 → ⊥
+no_memory_unanswered h = grind arith
+
+-- a run that is answered has all replies
+record IsWhole (run : Run) (status : ℕ) (replies last : List ℕ) : Type 0 where
+  same : last ≡ run.last
+  begun : IsFront replies run.replies
+  answered : (run.status ≡ status) × (replies ≡ run.replies)
+
+whole_run : (run : Run) (status : ℕ) (replies last : List ℕ) → run ≡ record { status = status; replies = replies; last = last } → IsWhole run status replies last
+whole_run run status replies last e = record {
+  same = sym (ap (λ (r : Run). r.last) e);
+  begun = ([], ap (λ (r : Run). r.replies) e ∙ append_nil replies);
+  answered = (ap (λ (r : Run). r.status) e, sym (ap (λ (r : Run). r.replies) e));
+}
+
+wrote_whole : (run : Run) (status : ℕ) (rose : Type 0) (replies last : List ℕ) (before : List ℕ) (t1 t2 : Option (List ℕ)) → Appends (Some before) t1 replies → Closes last rose t1 t2
+    → run.last ≡ last_line status run → IsWhole run status replies last → IfSome t2 (λ after. Wrote run status rose before after)
+wrote_whole run status rose replies last before t1 t2 taken closed line whole =
+    wrote_last run status rose replies closed.part last before t1 t2 taken closed.taken closed.front closed.whole (whole.same ∙ line) whole.begun (λ answered. whole.answered)
+
+wrote_front : (run : Run) (status : ℕ) (rose : Type 0) (replies last : List ℕ) (before : List ℕ) (t1 t2 : Option (List ℕ)) → Appends (Some before) t1 replies → Closes last rose t1 t2
+    → last ≡ last_line status run → IsFront replies run.replies → (IsAnswered status → ⊥) → IfSome t2 (λ after. Wrote run status rose before after)
+wrote_front run status rose replies last before t1 t2 taken closed line begun unanswered =
+    wrote_last run status rose replies closed.part last before t1 t2 taken closed.taken closed.front closed.whole line begun (λ answered. absurd (unanswered answered))
+
+-- after a write fault nothing more is written
+wrote_no_more : (run : Run) (rose : Type 0) (replies before : List ℕ) (t1 : Option (List ℕ)) → Took (Some before) t1 replies → IsFront replies run.replies → IfSome t1 (λ after. Wrote run 5 rose before after)
+wrote_no_more run rose replies before None taken begun = tt
+wrote_no_more run rose replies before (Some after) taken begun = record {
+  replies = replies;
+  last = [];
+  written = taken ∙ append_nil (before ++ replies);
+  begun = begun;
+  ended = ([], refl);
+  whole = inl refl;
+  answered = λ answered. absurd (write_fault_unanswered answered);
+}
+
+-- a front of a bad line's replies
+bad_line_front : (run : Run) (number at : ℕ) (replies : List ℕ) → EndsAs (BadLine number at) run replies → IsFront replies run.replies
+bad_line_front run number at replies e = (whole_run run 3 replies (bad_line number at) e).begun
+
+wrote_as : (e closed : Ending) (run : Run) (rose : Type 0) (before : List ℕ) (t1 t2 : Option (List ℕ)) → Ends e run (Some before) t1 → closed ≡ e → Closes (closing_line e) rose t1 t2 → (closing_line e ≡ [] → t2 ≡ t1)
+    → IfSome t2 (λ after. Wrote run (status_of e) rose before after)
+wrote_as Done closed run rose before t1 t2 ends same line kept = wrote_whole run 0 rose ends.replies [] before t1 t2 ends.taken line refl (whole_run run 0 ends.replies [] ends.ends)
+wrote_as Usage closed run rose before t1 t2 ends same line kept = wrote_whole run 2 rose ends.replies usage_line before t1 t2 ends.taken line refl (whole_run run 2 ends.replies usage_line ends.ends)
+wrote_as (BadLine number at) closed run rose before t1 t2 ends same line kept =
+    wrote_whole run 3 rose ends.replies (bad_line number at) before t1 t2 ends.taken line refl (whole_run run 3 ends.replies (bad_line number at) ends.ends)
+wrote_as ReadFault closed run rose before t1 t2 ends same line kept = wrote_front run 4 rose ends.replies read_fault_line before t1 t2 ends.taken line refl ends.ends read_fault_unanswered
+wrote_as NoMemory closed run rose before t1 t2 ends same line kept = wrote_front run 12 rose ends.replies no_memory_line before t1 t2 ends.taken line refl ends.ends no_memory_unanswered
+wrote_as WriteFault closed run rose before t1 t2 ends same line kept =
+    let P : Option (List ℕ) → Type 0 = λ t. IfSome t (λ after. Wrote run 5 rose before after) in
+    subst P (sym (kept refl)) (wrote_no_more run rose ends.replies before t1 ends.taken ends.ends)
+
+wrote_closed : (e closed : Ending) (run : Run) (rose : Type 0) (before : List ℕ) (t1 t2 : Option (List ℕ)) → Ends e run (Some before) t1 → closed ≡ e → Closes (closing_line closed) rose t1 t2 → (closing_line closed ≡ [] → t2 ≡ t1)
+    → IfSome t2 (λ after. Wrote run (status_of closed) rose before after)
+wrote_closed e closed run rose before t1 t2 ends same line kept =
+    let P : Ending → Type 0 = λ x. Closes (closing_line x) rose t1 t2 → (closing_line x ≡ [] → t2 ≡ t1) → IfSome t2 (λ after. Wrote run (status_of x) rose before after) in
+    subst P (sym same) (wrote_as e e run rose before t1 t2 ends refl) line kept
+
+wrote_without_memory : (number at : ℕ) (closed : Ending) (run : Run) (rose : Type 0) (before : List ℕ) (t1 t2 : Option (List ℕ)) → Ends (BadLine number at) run (Some before) t1 → closed ≡ NoMemory → Closes (closing_line closed) rose t1 t2
+    → IfSome t2 (λ after. Wrote run (status_of closed) rose before after)
+wrote_without_memory number at closed run rose before t1 t2 ends same line =
+    let P : Ending → Type 0 = λ x. Closes (closing_line x) rose t1 t2 → IfSome t2 (λ after. Wrote run (status_of x) rose before after) in
+    subst P (sym same) (λ line. wrote_front run 12 rose ends.replies no_memory_line before t1 t2 ends.taken line refl (bad_line_front run number at ends.replies ends.ends) no_memory_unanswered) line
+
+wrote_any : (e closed : Ending) (run : Run) (rose : Type 0) (before : List ℕ) (t1 t2 : Option (List ℕ)) → Ends e run (Some before) t1 → ClosesAs e closed → Closes (closing_line closed) rose t1 t2 → (closing_line closed ≡ [] → t2 ≡ t1)
+    → IfSome t2 (λ after. Wrote run (status_of closed) rose before after)
+wrote_any (BadLine number at) closed run rose before t1 t2 ends closes_as line kept =
+    ⊎_elim (λ same. wrote_closed (BadLine number at) closed run rose before t1 t2 ends same line kept)
+      (λ same. wrote_without_memory number at closed run rose before t1 t2 ends same line) closes_as
+wrote_any Done closed run rose before t1 t2 ends closes_as line kept = wrote_closed Done closed run rose before t1 t2 ends closes_as line kept
+wrote_any Usage closed run rose before t1 t2 ends closes_as line kept = wrote_closed Usage closed run rose before t1 t2 ends closes_as line kept
+wrote_any ReadFault closed run rose before t1 t2 ends closes_as line kept = wrote_closed ReadFault closed run rose before t1 t2 ends closes_as line kept
+wrote_any WriteFault closed run rose before t1 t2 ends closes_as line kept = wrote_closed WriteFault closed run rose before t1 t2 ends closes_as line kept
+wrote_any NoMemory closed run rose before t1 t2 ends closes_as line kept = wrote_closed NoMemory closed run rose before t1 t2 ends closes_as line kept
+
+pub wrote : {B : Type 0} (script : Option B) (run : B → Run) (e closed : Ending) (rose : Type 0) (t0 t1 t2 : Option (List ℕ)) → IfSome script (λ bytes. Ends e (run bytes) t0 t1) → ClosesAs e closed
+    → Closes (closing_line closed) rose t1 t2 → (closing_line closed ≡ [] → t2 ≡ t1)
+    → IfSome script (λ bytes. IfSome t0 (λ before. IfSome t2 (λ after. Wrote (run bytes) (status_of closed) rose before after)))
+wrote None run e closed rose t0 t1 t2 ends closes_as line kept = tt
+wrote (Some bytes) run e closed rose None t1 t2 ends closes_as line kept = tt
+wrote (Some bytes) run e closed rose (Some before) t1 t2 ends closes_as line kept = wrote_any e closed (run bytes) rose before t1 t2 ends closes_as line kept
+
+-- a count that rose since a later moment rose since an earlier one
+Rose-since : (first before now : ℕ) → first ≤ before → Rose before now → Rose first now
+Rose-since first before now later rose = omega arith
+
+sink_faults_later : (e : Ending) (before now : ℕ) → SinkFaults (Some e) before now → before ≤ now
+sink_faults_later WriteFault before now h = h.0
+sink_faults_later Done before now h = omega arith
+sink_faults_later Usage before now h = omega arith
+sink_faults_later ReadFault before now h = omega arith
+sink_faults_later NoMemory before now h = omega arith
+sink_faults_later (BadLine number at) before now h = omega arith
+
+pub closes_since : (e : Ending) (line : List ℕ) (first before now : ℕ) (t1 t2 : Option (List ℕ)) → SinkFaults (Some e) first before → Closes line (Rose before now) t1 t2 → Closes line (Rose first now) t1 t2
+closes_since e line first before now t1 t2 sink closed = record {
+  part = closed.part;
+  taken = closed.taken;
+  front = closed.front;
+  whole = ⊎_elim (λ whole. inl whole) (λ rose. inr (Rose-since first before now (sink_faults_later e first before sink) rose)) closed.whole;
+}

@@ -1,0 +1,6 @@
+pub mod Texts
+pub mod Transcript
+pub mod Written
+pub mod Answers
+pub mod Endings
+pub mod Progress

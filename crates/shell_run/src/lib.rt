@@ -1,0 +1,11 @@
+//! The shell: runs a script over what is handed in, and prints the replies.
+#![tactic(auto)]
+
+mod answer;
+mod ending;
+mod found;
+mod reply;
+mod run;
+
+pub use found::{Found, FoundEntry, FoundKind};
+pub use run::run_alone;

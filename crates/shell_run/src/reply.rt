@@ -1,0 +1,169 @@
+// The lines that the shell prints.
+ghost use Rattle.std.specs.Prelude.{◌≡◌, ◌++◌, ◌∷◌, [], OnOk, decimal};
+ghost use Rattle.std.specs.List.{flat_map};
+ghost use Rattle.hex.specs.Hex.{encode_lower};
+ghost use Rattle.shell_run.specs.Texts.{reply_line, ok_line, error_line, error_text, set_line, bad_line, dataset_text, material_text, fields_of, spaced};
+
+use dataset_tree::{MaterialFault, NoMemory, Refusal, Row, Tree};
+use itoa::Buffer;
+
+/// Adds a number in decimal digits.
+fn push_number(text: &mut Vec<u8>, number: u64) -> Result<(), NoMemory>
+    ensures { OnOk result (text.new.items ≡ text.old.items ++ decimal number) }
+{
+    let mut buffer = Buffer::new();
+    text.extend_from_slice(buffer.format(number).as_bytes())
+}
+
+/// Adds the reply to a line that was carried out.
+pub(crate) fn push_ok(text: &mut Vec<u8>, line: u32) -> Result<(), NoMemory>
+    ensures { OnOk result (text.new.items ≡ text.old.items ++ ok_line line) }
+{
+    push_number(text, line as u64)?;
+    text.extend_from_slice(b" ok\n")
+}
+
+/// Adds the reply to a line that is no line of the language.
+pub(crate) fn push_bad(text: &mut Vec<u8>, line: u32, at: u32) -> Result<(), NoMemory>
+    ensures { OnOk result (text.new.items ≡ text.old.items ++ bad_line line at) }
+{
+    push_number(text, line as u64)?;
+    text.extend_from_slice(b" bad ")?;
+    push_number(text, at as u64)?;
+    text.extend_from_slice(b"\n")
+}
+
+/// Adds the row of a dataset.
+pub(crate) fn push_set(text: &mut Vec<u8>, line: u32, row: &Row) -> Result<(), NoMemory>
+    ensures { OnOk result (text.new.items ≡ text.old.items ++ set_line line row.now) }
+{
+    push_number(text, line as u64)?;
+    text.extend_from_slice(b" set ")?;
+    text.extend_from_slice(row.name.as_bytes())?;
+    text.extend_from_slice(b" plain\n")
+}
+
+/// Adds the rows of these datasets.
+pub(crate) fn push_sets(text: &mut Vec<u8>, line: u32, rows: &[Row]) -> Result<(), NoMemory>
+    ensures { OnOk result (text.new.items ≡ text.old.items ++ flat_map (set_line line) rows.now) }
+{
+    for row in rows {
+        push_set(text, line, row)?;
+    }
+    Ok(())
+}
+
+/// Adds the reply to a line that is refused. Datasets are named by the tree.
+pub(crate) fn push_error(
+    text: &mut Vec<u8>,
+    line: u32,
+    tree: &Tree,
+    why: &Refusal,
+) -> Result<(), NoMemory>
+    ensures { OnOk result (text.new.items ≡ text.old.items ++ error_line line tree.now.rows why.now) }
+{
+    push_number(text, line as u64)?;
+    text.extend_from_slice(b" error ")?;
+    push_number(text, why.number() as u64)?;
+    text.extend_from_slice(b" ")?;
+    text.extend_from_slice(why.name().as_bytes())?;
+    push_fields(text, tree, why)?;
+    text.extend_from_slice(b"\n")
+}
+
+/// Adds a number behind a space.
+fn push_field(text: &mut Vec<u8>, number: u64) -> Result<(), NoMemory>
+    ensures { OnOk result (text.new.items ≡ text.old.items ++ spaced (decimal number ∷ [])) }
+{
+    text.extend_from_slice(b" ")?;
+    push_number(text, number)
+}
+
+/// Adds bytes in hexadecimal behind a space.
+fn push_bytes(text: &mut Vec<u8>, bytes: &[u8]) -> Result<(), NoMemory>
+    ensures { OnOk result (text.new.items ≡ text.old.items ++ spaced (encode_lower bytes.now ∷ [])) }
+{
+    let digits = hex::encode(*text.allocator(), bytes)?;
+    text.extend_from_slice(b" ")?;
+    text.extend_from_slice(digits.as_bytes())
+}
+
+/// Adds the name of a dataset behind a space, or its id where the tree lacks it.
+fn push_dataset(text: &mut Vec<u8>, tree: &Tree, id: u32) -> Result<(), NoMemory>
+    ensures { OnOk result (text.new.items ≡ text.old.items ++ spaced (dataset_text tree.now.rows id ∷ [])) }
+{
+    match tree.row(id) {
+        Some(row) => {
+            text.extend_from_slice(b" ")?;
+            text.extend_from_slice(row.name.as_bytes())
+        }
+        None => push_field(text, id as u64),
+    }
+}
+
+fn push_material(text: &mut Vec<u8>, fault: MaterialFault) -> Result<(), NoMemory>
+    ensures { OnOk result (text.new.items ≡ text.old.items ++ spaced (material_text fault)) }
+{
+    match fault {
+        MaterialFault::Short => text.extend_from_slice(b" short"),
+        MaterialFault::Long => text.extend_from_slice(b" long"),
+        MaterialFault::Hex { at } => {
+            text.extend_from_slice(b" hex")?;
+            push_field(text, at)
+        }
+    }
+}
+
+/// Adds what stands behind a refusal's name.
+fn push_fields(text: &mut Vec<u8>, tree: &Tree, why: &Refusal) -> Result<(), NoMemory>
+    ensures { OnOk result (text.new.items ≡ text.old.items ++ spaced (fields_of tree.now.rows why.now)) }
+{
+    match why {
+        Refusal::BadName { at } | Refusal::NotStream { at } | Refusal::BadDirectory { at } => {
+            push_field(text, *at)
+        }
+        Refusal::TooBig { limit } | Refusal::Full { limit } => push_field(text, *limit),
+        Refusal::WrongKey { dataset } | Refusal::NoHead { head: dataset } => {
+            push_dataset(text, tree, *dataset)
+        }
+        Refusal::BadMaterial { fault } => push_material(text, *fault),
+        Refusal::Busy { dataset, count } => {
+            push_dataset(text, tree, *dataset)?;
+            push_field(text, *count)
+        }
+        Refusal::MacFailed {
+            object,
+            level,
+            index,
+        } => {
+            push_field(text, *object)?;
+            push_field(text, *level)?;
+            push_field(text, *index)
+        }
+        Refusal::Damaged { computed, found } => {
+            push_bytes(text, computed)?;
+            push_bytes(text, found)
+        }
+        Refusal::BadTop {
+            object,
+            claimed,
+            built,
+        } => {
+            push_field(text, *object)?;
+            push_bytes(text, claimed)?;
+            push_bytes(text, built)
+        }
+        Refusal::Unmapped {
+            found: first,
+            wanted: second,
+        }
+        | Refusal::KeyDiffers {
+            held: first,
+            family: second,
+        } => {
+            push_field(text, *first)?;
+            push_field(text, *second)
+        }
+        _ => Ok(()),
+    }
+}

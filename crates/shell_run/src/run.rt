@@ -1,0 +1,285 @@
+// A run: the lines of a script, one after another.
+ghost use Rattle.std.specs.Prelude.{◌≡◌, ◌≢◌, ◌≤◌, ◌+◌, ◌⊎◌, [], List, ℕ, IfOk, IfErr, IfSome, OnOk, OnErr, Some, None, length};
+ghost use Rattle.std.specs.Io.KnownBytes.{Appends};
+ghost use Rattle.std.specs.Result.{result_err};
+ghost use Rattle.dataset_tree.specs.Tree.{Datasets, no_datasets};
+ghost use Rattle.edge_io.specs.Faults.{HasCause, Rose};
+ghost use Rattle.edge_io.specs.Lines.{lines};
+ghost use Rattle.edge_io.specs.Told.{unread};
+ghost use Rattle.shell_lines.specs.Grammar.{line_of};
+ghost use Rattle.shell_run.specs.Endings.{EndsAs, closing_line, SourceFaults, SinkFaults, ClosesAs};
+ghost use Rattle.shell_run.specs.Progress.{Ends, Closes, LineRan, TakesLine, TakesNone, TookFront, Replied};
+ghost use Rattle.shell_run.specs.Transcript.{run_from, transcript};
+ghost use Rattle.shell_run.specs.Written.{IsAnswered, Wrote};
+
+use crate::answer::answer;
+use crate::ending::Ending;
+use crate::found::Found;
+use crate::reply::push_bad;
+use dataset_tree::{NoMemory, Tree};
+use edge_io::{Failed, LineError, LineReader, MAX_LINE, Sink, Source};
+use shell_lines::LineStop;
+use std::alloc::{AllocError, Global};
+
+/// The most lines of a script.
+const MAX_LINES: u32 = 1048576;
+
+/// The first line past those that a script may have isn't read.
+const TOO_MANY_LINES: Ending = Ending::BadLine {
+    number: MAX_LINES + 1,
+    at: 0,
+};
+
+const USAGE_LINE: &[u8] = b"usage: zfs_shell [--max-salt-uses N] [--generate N]\n";
+const READ_FAULT_LINE: &[u8] = b"read fault\n";
+const NO_MEMORY_LINE: &[u8] = b"no memory\n";
+
+/// Runs a script, prints its replies, and answers the status of the program:
+///
+/// - 0: the script was read to its end.
+/// - 2: `words` aren't those of a command line; the last line of output is the usage.
+/// - 3: a line isn't in the language or is one too many; the last line is `N bad AT`.
+/// - 4: the script couldn't be read; the last line is `read fault`.
+/// - 5: a reply couldn't be written.
+/// - 12: an allocation was refused; the last line is `no memory`.
+pub fn run_alone<S: Source, O: Sink>(
+    alloc: Global,
+    words: &[String],
+    script: &mut S,
+    out: &mut O,
+    found: &mut Found,
+) -> u8
+    requires { found.old ≡ [] }
+
+    // Where the script and the output are told, what was written is the transcript.
+    ensures transcript { IfSome (S.left script.old) (λ bytes. IfSome (O.taken out.old) (λ before. IfSome (O.taken out.new) (λ after.
+        Wrote (transcript words.now bytes) result (Rose (O.faults out.old) (O.faults out.new)) before after))) }
+    ensures answered { IfSome (S.left script.old) (λ bytes. IsAnswered result → (transcript words.now bytes).status ≡ result) }
+    ensures read_to_its_end { result ≡ 0 → IfSome (S.left script.old) (λ bytes. S.left script.new ≡ Some []) }
+
+    // Every other status has its cause.
+    ensures statuses { IsAnswered result ⊎ (result ≡ 4) ⊎ (result ≡ 5) ⊎ (result ≡ 12) }
+    ensures usage { words.now ≢ [] → result ≡ 2 }
+    ensures usage_only { result ≡ 2 → words.now ≢ [] }
+    ensures read_fault { result ≡ 4 → Rose (S.faults script.old) (S.faults script.new) }
+    ensures write_fault { result ≡ 5 → Rose (O.faults out.old) (O.faults out.new) }
+    ensures no_read_fault { result ≢ 4 → S.faults script.new ≡ S.faults script.old }
+    ensures no_write_fault { result ≡ 0 → O.faults out.new ≡ O.faults out.old }
+    ensures read_faults { S.faults script.old ≤ S.faults script.new }
+    ensures write_faults { O.faults out.old ≤ O.faults out.new }
+
+    ensures found { found.new ≡ [] }
+{
+    let ending = run_words(alloc, words, script, out);
+    close(alloc, ending, out).status()
+}
+
+/// Does what the words ask, and says how the run ends.
+fn run_words<S: Source, O: Sink>(
+    alloc: Global,
+    words: &[String],
+    script: &mut S,
+    out: &mut O,
+) -> Ending
+    ensures told { IfSome (S.left script.old) (λ bytes.
+        Ends result (transcript words.now bytes) (O.taken out.old) (O.taken out.new)) }
+    ensures end { result ≡ Ending.Done → IfSome (S.left script.old) (λ bytes. S.left script.new ≡ Some []) }
+    ensures usage { words.now ≢ [] → result ≡ Ending.Usage }
+    ensures usage_only { result ≡ Ending.Usage → words.now ≢ [] }
+    ensures source { SourceFaults (Some result) (S.faults script.old) (S.faults script.new) }
+    ensures sink { SinkFaults (Some result) (O.faults out.old) (O.faults out.new) }
+{
+    match words {
+        [] => run_script(alloc, script, out),
+        [_, ..] => Ending::Usage,
+    }
+}
+
+/// Runs a script, and says how it ended.
+fn run_script<S: Source, O: Sink>(alloc: Global, script: &mut S, out: &mut O) -> Ending
+    ensures told { IfSome (S.left script.old) (λ bytes.
+        Ends result (run_from 1 (lines bytes) no_datasets) (O.taken out.old) (O.taken out.new)) }
+    ensures end { result ≡ Ending.Done → IfSome (S.left script.old) (λ bytes. S.left script.new ≡ Some []) }
+    ensures not_usage { result ≢ Ending.Usage }
+    ensures source { SourceFaults (Some result) (S.faults script.old) (S.faults script.new) }
+    ensures sink { SinkFaults (Some result) (O.faults out.old) (O.faults out.new) }
+{
+    match start(alloc) {
+        Ok((mut reader, mut tree)) => run_lines(alloc, 1, &mut tree, &mut reader, script, out),
+        Err(_) => Ending::NoMemory,
+    }
+}
+
+/// A reader that has taken nothing, and a host without datasets.
+fn start(alloc: Global) -> Result<(LineReader, Tree), NoMemory>
+    ensures { IfOk result (λ made. (made.0 ≡ []) × (made.1 ≡ no_datasets)) }
+{
+    let tree = Tree::new(alloc)?;
+    match LineReader::new(alloc) {
+        Ok(reader) => Ok((reader, tree)),
+        Err(_) => Err(AllocError),
+    }
+}
+
+/// Runs the lines from this number on.
+fn run_lines<S: Source, O: Sink>(
+    alloc: Global,
+    first: u32,
+    tree: &mut Tree,
+    reader: &mut LineReader,
+    script: &mut S,
+    out: &mut O,
+) -> Ending
+    requires { first ≤ MAX_LINES }
+    ensures told { IfSome (unread reader.old (S.left script.old)) (λ bytes.
+        Ends result (run_from first (lines bytes) tree.old) (O.taken out.old) (O.taken out.new)) }
+    ensures end { result ≡ Ending.Done → IfSome (unread reader.old (S.left script.old)) (λ bytes. unread reader.new (S.left script.new) ≡ Some []) }
+    ensures not_usage { result ≢ Ending.Usage }
+    ensures source { SourceFaults (Some result) (S.faults script.old) (S.faults script.new) }
+    ensures sink { SinkFaults (Some result) (O.faults out.old) (O.faults out.new) }
+{
+    let mut reply = Vec::new(alloc);
+    for number in first..MAX_LINES + 1 {
+        if let Some(ending) = run_line(alloc, number, tree, reader, &mut reply, script, out) {
+            return ending;
+        }
+    }
+    end_at_limit(reader, script)
+}
+
+/// How a run ends that has answered as many lines as a script may have.
+fn end_at_limit<S: Source>(reader: &mut LineReader, script: &mut S) -> Ending
+    ensures told { IfSome (unread reader.old (S.left script.old)) (λ bytes. (t : Datasets) →
+        EndsAs result (run_from 1048577 (lines bytes) t) []) }
+    ensures end { result ≡ Ending.Done → IfSome (unread reader.old (S.left script.old)) (λ bytes. unread reader.new (S.left script.new) ≡ Some []) }
+    ensures not_usage { (result ≢ Ending.Usage) × (result ≢ Ending.WriteFault) }
+    ensures source { SourceFaults (Some result) (S.faults script.old) (S.faults script.new) }
+{
+    match reader.next(script) {
+        Ok(None) => Ending::Done,
+        Ok(Some(_)) => TOO_MANY_LINES,
+        Err(LineError::Long) => TOO_MANY_LINES,
+        Err(LineError::Failed) => Ending::ReadFault,
+        Err(LineError::NoMemory) => Ending::NoMemory,
+    }
+}
+
+/// Takes a line, carries it out and prints its reply; else says how the run ends.
+fn run_line<S: Source, O: Sink>(
+    alloc: Global,
+    number: u32,
+    tree: &mut Tree,
+    reader: &mut LineReader,
+    reply: &mut Vec<u8>,
+    script: &mut S,
+    out: &mut O,
+) -> Option<Ending>
+    requires { number ≤ MAX_LINES }
+    ensures told { IfSome (unread reader.old (S.left script.old)) (λ bytes.
+        LineRan result number bytes (unread reader.new (S.left script.new)) tree.old tree.new (O.taken out.old) (O.taken out.new)) }
+    ensures end { result ≡ Some Ending.Done → IfSome (unread reader.old (S.left script.old)) (λ bytes. unread reader.new (S.left script.new) ≡ Some []) }
+    ensures not_usage { result ≢ Some Ending.Usage }
+    ensures source { SourceFaults result (S.faults script.old) (S.faults script.new) }
+    ensures sink { SinkFaults result (O.faults out.old) (O.faults out.new) }
+{
+    match take_line(number, reader, script) {
+        Ok(line) => reply_to(alloc, number, tree, line.as_slice(), reply, out),
+        Err(ending) => Some(ending),
+    }
+}
+
+/// Takes the line of this number; else says how the run ends.
+fn take_line<S: Source>(
+    number: u32,
+    reader: &mut LineReader,
+    script: &mut S,
+) -> Result<Vec<u8>, Ending>
+    ensures line { IfOk result (λ line. IfSome (unread reader.old (S.left script.old)) (λ bytes.
+        TakesLine line.items bytes (unread reader.new (S.left script.new)))) }
+    ensures short { IfOk result (λ line. length line.items ≤ 65536) }
+    ensures none { IfErr result (λ ending. IfSome (unread reader.old (S.left script.old)) (λ bytes.
+        TakesNone ending number bytes (unread reader.new (S.left script.new)))) }
+    ensures not_usage { IfErr result (λ ending. (ending ≢ Ending.Usage) × (ending ≢ Ending.WriteFault)) }
+    ensures source { SourceFaults (result_err result) (S.faults script.old) (S.faults script.new) }
+{
+    match reader.next(script) {
+        Ok(Some(line)) => Ok(line),
+        Ok(None) => Err(Ending::Done),
+        Err(LineError::Long) => Err(Ending::BadLine {
+            number,
+            at: MAX_LINE as u32,
+        }),
+        Err(LineError::Failed) => Err(Ending::ReadFault),
+        Err(LineError::NoMemory) => Err(Ending::NoMemory),
+    }
+}
+
+/// Carries out a line and prints its reply; else says how the run ends.
+fn reply_to<O: Sink>(
+    alloc: Global,
+    number: u32,
+    tree: &mut Tree,
+    line: &[u8],
+    reply: &mut Vec<u8>,
+    out: &mut O,
+) -> Option<Ending>
+    requires { length line.now ≤ 65536 }
+    ensures told { Replied result number (line_of line.now 0) tree.old tree.new (O.taken out.old) (O.taken out.new) }
+    ensures sink { SinkFaults result (O.faults out.old) (O.faults out.new) }
+{
+    reply.clear();
+    match answer(alloc, tree, number, line, reply) {
+        Ok(()) => match write_all(out, reply.as_slice()) {
+            Ok(()) => None,
+            Err(_) => Some(Ending::WriteFault),
+        },
+        Err(LineStop::Bad { at }) => Some(Ending::BadLine { number, at }),
+        Err(LineStop::NoMemory) => Some(Ending::NoMemory),
+    }
+}
+
+/// Prints the last line of a run that ends so. Where no memory is left for it, the run ends with that.
+fn close<O: Sink>(alloc: Global, ending: Ending, out: &mut O) -> Ending
+    ensures ending { ClosesAs ending result }
+    ensures told { Closes (closing_line result) (Rose (O.faults out.old) (O.faults out.new)) (O.taken out.old) (O.taken out.new) }
+    ensures later { O.faults out.old ≤ O.faults out.new }
+    ensures silent { closing_line result ≡ [] → (O.faults out.new ≡ O.faults out.old) × (O.taken out.new ≡ O.taken out.old) }
+{
+    match ending {
+        Ending::Done | Ending::WriteFault => {}
+        Ending::Usage => write_last(out, USAGE_LINE),
+        Ending::ReadFault => write_last(out, READ_FAULT_LINE),
+        Ending::NoMemory => write_last(out, NO_MEMORY_LINE),
+        Ending::BadLine { number, at } => {
+            let mut line = Vec::new(alloc);
+            if push_bad(&mut line, number, at).is_err() {
+                write_last(out, NO_MEMORY_LINE);
+                return Ending::NoMemory;
+            }
+            write_last(out, line.as_slice());
+        }
+    }
+    ending
+}
+
+/// Writes the last line. Where that fails the status stays.
+fn write_last<O: Sink>(out: &mut O, line: &[u8])
+    ensures told { Closes line.now (Rose (O.faults out.old) (O.faults out.new)) (O.taken out.old) (O.taken out.new) }
+    ensures later { O.faults out.old ≤ O.faults out.new }
+{
+    let _ = write_all(out, line);
+}
+
+/// Writes all these bytes.
+fn write_all<O: Sink>(out: &mut O, bytes: &[u8]) -> Result<(), Failed>
+    ensures written { OnOk result (Appends (O.taken out.old) (O.taken out.new) bytes.now) }
+    ensures part { TookFront bytes.now (O.taken out.old) (O.taken out.new) }
+    ensures cause { HasCause (O.faults out.old) (O.faults out.new) result }
+{
+    let mut rest = bytes;
+    while !rest.is_empty() {
+        let count = out.write(rest)?;
+        rest = &rest[count..];
+    }
+    Ok(())
+}
