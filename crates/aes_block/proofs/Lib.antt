@@ -1,1 +1,4 @@
+pub mod Checked
+pub mod FieldLaws
 pub mod CipherLaws
+pub mod ScheduleLaws

@@ -1,7 +1,8 @@
-// Bytes as elements of GF(2^8) (FIPS 197, section 4).
+// Bytes as elements of GF(2^8) (FIPS 197, section 4), and the S-box over them.
 
 ghost use Rattle.std.specs.Prelude.{◌≡◌};
 ghost use Rattle.aes_block.specs.Field.{◌•◌, inverse, xtimes};
+ghost use Rattle.aes_block.specs.Cipher.{affine, sbox};
 
 // XTIMES (4.2).
 pub(crate) fn xtimes(b: u8) -> u8
@@ -11,13 +12,13 @@ pub(crate) fn xtimes(b: u8) -> u8
 }
 
 // The product of two bytes (4.2).
-pub(crate) fn multiply(b: u8, c: u8) -> u8
+fn multiply(b: u8, c: u8) -> u8
     ensures { result ≡ b • c }
 {
     let mut rest = b;
     let mut multiple = c;
     let mut sum = 0;
-    for _ in 0..8 {
+    'bits: for _ in 0..u8::BITS {
         sum ^= (rest & 1) * multiple;
         rest >>= 1;
         multiple = xtimes(multiple);
@@ -25,8 +26,8 @@ pub(crate) fn multiply(b: u8, c: u8) -> u8
     sum
 }
 
-// The multiplicative inverse, the power 254, and 0 for 0 (4.4).
-pub(crate) fn inverse(b: u8) -> u8
+// The multiplicative inverse: the power 254, by the powers that the names say (4.4).
+fn inverse(b: u8) -> u8
     ensures { result ≡ inverse b }
 {
     let power_2 = multiply(b, b);
@@ -40,4 +41,18 @@ pub(crate) fn inverse(b: u8) -> u8
     let power_240 = multiply(power_120, power_120);
     let power_252 = multiply(power_12, power_240);
     multiply(power_2, power_252)
+}
+
+// The affine map (5.1.1).
+fn affine(b: u8) -> u8
+    ensures { result ≡ affine b }
+{
+    b ^ b.rotate_left(1) ^ b.rotate_left(2) ^ b.rotate_left(3) ^ b.rotate_left(4) ^ 0x63
+}
+
+// SBOX (5.1.1).
+pub(crate) fn sbox(b: u8) -> u8
+    ensures { result ≡ sbox b }
+{
+    affine(inverse(b))
 }

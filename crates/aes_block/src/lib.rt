@@ -2,18 +2,26 @@
 #![tactic(auto)]
 
 ghost use Rattle.std.specs.Prelude.{◌≡◌, ◌*◌, length};
-ghost use Rattle.aes_block.specs.Cipher.{aes, IsKeySize};
+ghost use Rattle.aes_block.specs.Cipher.{IsKeySize, aes};
 
+use crate::field::xtimes;
+use crate::schedule::{next_word, put_word};
+use crate::state::{add_round_key, mix_columns, shift_rows, sub_bytes};
 use std::marker::Model;
 
 mod field;
+mod schedule;
+mod state;
+
+// The most bytes that a key schedule has: the 60 words of AES-256.
+const SCHEDULE_LEN: usize = 240;
 
 /// A key of `NK` words of four bytes, made ready for encryption: `NK` is 4, 6 or 8, for AES-128,
-/// AES-192 and AES-256. It stands for the bytes of its key.
+/// AES-192 and AES-256. Contracts see the bytes of the key.
 #[derive(Drop)]
 pub struct Aes<const NK: usize> {
-    // The key schedule's words, one after the other; AES-256 has the most, 60.
-    words: [u8; 240],
+    // The words of the key schedule, one after the other.
+    words: [u8; SCHEDULE_LEN],
 }
 
 impl<const NK: usize> Model for Aes<NK> {
@@ -29,14 +37,22 @@ impl<const NK: usize> Model for Aes<NK> {
 }
 
 impl<const NK: usize> Aes<NK> {
-    /// The key schedule of `key`, which has `4 * NK` bytes (KEYEXPANSION, 5.2).
+    /// Makes the key schedule of `key`, which has `4 * NK` bytes (KEYEXPANSION, 5.2).
     pub fn expand(key: &[u8]) -> Aes<NK>
         requires size { IsKeySize NK }
         requires whole { length key.now ≡ 4 * NK }
         ensures { result ≡ key.now }
     {
-        let mut words = [0; 240];
+        let mut words = [0; SCHEDULE_LEN];
         words[..4 * NK].copy_from_slice(key);
+        let mut round_constant = 1;
+        'words: for i in NK..4 * (NK + 7) {
+            let word = next_word(&words, NK, i, round_constant);
+            put_word(&mut words, i, word);
+            if i % NK == 0 {
+                round_constant = xtimes(round_constant);
+            }
+        }
         Aes { words }
     }
 
@@ -44,6 +60,18 @@ impl<const NK: usize> Aes<NK> {
     pub fn encrypt_block(&self, block: &mut [u8; 16])
         ensures { block.new ≡ aes self.now block.old }
     {
-        block[0] = self.words[0];
+        add_round_key(block, &self.words, 0);
+        'rounds: for round in 1..NK + 6 {
+            sub_bytes(block);
+            shift_rows(block);
+            mix_columns(block);
+            add_round_key(block, &self.words, round);
+        }
+        sub_bytes(block);
+        shift_rows(block);
+        add_round_key(block, &self.words, NK + 6);
     }
 }
+
+#[cfg(test)]
+mod tests;
