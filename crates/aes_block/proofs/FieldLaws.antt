@@ -63,8 +63,8 @@ unfolding xtimes
 xtimes-sum a b =
     let low = ap (λ (x : ℕ). x % 256) (twice-sum a b) ∙ xor_mod (2 * a) (2 * b) 8 in
     let high =
-        ap (λ (x : ℕ). x * 0x1b) (bit_at-sum a b 7)
-        ∙ sum-mul (bit_at a 7) (bit_at b 7) 0x1b (omega arith) (omega arith) in
+    ap (λ (x : ℕ). x * 0x1b) (bit_at-sum a b 7)
+    ∙ sum-mul (bit_at a 7) (bit_at b 7) 0x1b (omega arith) (omega arith) in
     ap (λ (x : ℕ). x ⊕ bit_at (a ⊕ b) 7 * 0x1b) low ∙ ap (λ (x : ℕ). (2 * a % 256) ⊕ (2 * b % 256) ⊕ x) high
     ∙ sum_swap (2 * a % 256) (2 * b % 256) (bit_at a 7 * 0x1b) (bit_at b 7 * 0x1b)
 
@@ -114,8 +114,8 @@ sum_of_multiples-left zero b c d = refl
 sum_of_multiples-left (suc n) b c d =
     let low = ap (λ (x : ℕ). x * d) (sum-mod_two b c) ∙ sum-mul (b % 2) (c % 2) d (omega arith) (omega arith) in
     let rest =
-        ap (λ (x : ℕ). sum_of_multiples n x (xtimes d)) (sum-half b c)
-        ∙ sum_of_multiples-left n (b / 2) (c / 2) (xtimes d) in
+    ap (λ (x : ℕ). sum_of_multiples n x (xtimes d)) (sum-half b c)
+    ∙ sum_of_multiples-left n (b / 2) (c / 2) (xtimes d) in
     ap (λ (x : ℕ). x ⊕ sum_of_multiples n ((b ⊕ c) / 2) (xtimes d)) low
     ∙ ap (λ (x : ℕ). (b % 2 * d) ⊕ (c % 2 * d) ⊕ x) rest
     ∙ sum_swap (b % 2 * d) (c % 2 * d) (sum_of_multiples n (b / 2) (xtimes d)) (sum_of_multiples n (c / 2) (xtimes d))
@@ -164,9 +164,9 @@ product-three c =
 pub mixed_byte : (a b c d : ℕ) → xtimes (a ⊕ b) ⊕ b ⊕ c ⊕ d ≡ 2 • a ⊕ 3 • b ⊕ c ⊕ d
 mixed_byte a b c d =
     let first =
-        ap (λ (x : ℕ). x ⊕ b) (xtimes-sum a b) ∙ xor_assoc (xtimes a) (xtimes b) b
-        ∙ ap (λ (x : ℕ). xtimes a ⊕ x) (xor_comm (xtimes b) b ∙ sym (product-three b))
-        ∙ ap (λ (x : ℕ). x ⊕ 3 • b) (sym (product-two a)) in
+    ap (λ (x : ℕ). x ⊕ b) (xtimes-sum a b) ∙ xor_assoc (xtimes a) (xtimes b) b
+    ∙ ap (λ (x : ℕ). xtimes a ⊕ x) (xor_comm (xtimes b) b ∙ sym (product-three b))
+    ∙ ap (λ (x : ℕ). x ⊕ 3 • b) (sym (product-two a)) in
     ap (λ (x : ℕ). x ⊕ c ⊕ d) first
 
 -- two functions of two bytes that keep sums in each are the same if they are the same on powers of x
@@ -177,10 +177,10 @@ same_from_powers_of_both : (f g : ℕ → ℕ → ℕ)
     → (b c : ℕ) → b < 256 → c < 256 → f b c ≡ g b c
 same_from_powers_of_both f g fl fr gl gr checked b c hb hc =
     let on_powers : (i j : ℕ) → i < 8 → j < 8 → f (2 ^ i) (2 ^ j) ≡ g (2 ^ i) (2 ^ j) = λ i j hi hj.
-        let at = same_from_checked (λ k. f (2 ^ (k / 8)) (2 ^ (k % 8))) (λ k. g (2 ^ (k / 8)) (2 ^ (k % 8))) 64 checked (8 * i + j) (omega arith) in
-        let row : (8 * i + j) / 8 ≡ i = omega arith in
-        let column : (8 * i + j) % 8 ≡ j = omega arith in
-        rw (row, column) at at in
+    let at = same_from_checked (λ k. f (2 ^ (k / 8)) (2 ^ (k % 8))) (λ k. g (2 ^ (k / 8)) (2 ^ (k % 8))) 64 checked (8 * i + j) (omega arith) in
+    let row : (8 * i + j) / 8 ≡ i = omega arith in
+    let column : (8 * i + j) % 8 ≡ j = omega arith in
+    rw (row, column) at at in
     same_from_powers (λ a. f a c) (λ a. g a c) (fl c) (gl c) 8
     (λ i hi. same_from_powers (f (2 ^ i)) (g (2 ^ i)) (fr (2 ^ i)) (gr (2 ^ i)) 8 (λ j hj. on_powers i j hi hj) c hc) b hb
 
@@ -214,8 +214,8 @@ sum_of_multiples-product (suc n) a b c hb hc =
     product-sum_left (a % 2 * b) (sum_of_multiples n (a / 2) (xtimes b)) c
     ∙ ap (λ (x : ℕ). x ⊕ sum_of_multiples n (a / 2) (xtimes b) • c) (bit-product (a % 2) b c (omega arith))
     ∙ ap (λ (x : ℕ). (a % 2 * (b • c)) ⊕ x)
-      (sum_of_multiples-product n (a / 2) (xtimes b) c (xtimes-lt b) hc
-      ∙ ap (sum_of_multiples n (a / 2)) (product-xtimes b c hb hc))
+    (sum_of_multiples-product n (a / 2) (xtimes b) c (xtimes-lt b) hc
+    ∙ ap (sum_of_multiples n (a / 2)) (product-xtimes b c hb hc))
 
 pub product_assoc : (a b c : ℕ) → b < 256 → c < 256 → (a • b) • c ≡ a • (b • c)
 product_assoc a b c hb hc =

@@ -106,11 +106,11 @@ unfolding words_after
 words_after-more nk i key w new above after room held made =
     let next = next_word nk w i in
     let size : length (take (4 * i) w ++ next) ≡ 4 * (i + 1) =
-      omega (arith, length-append (take (4 * i) w) next, length-take-le (4 * i) w (omega arith), length-next_word nk w i) in
+    omega (arith, length-append (take (4 * i) w) next, length-take-le (4 * i) w (omega arith), length-next_word nk w i) in
     let steps : i + 1 - nk ≡ suc (i - nk) = omega arith in
     let place : nk + (i - nk) ≡ i = omega arith in
     let same : next ≡ next_word nk (words_after nk key (i - nk)) i =
-      sym (next_word-take nk w i above after) ∙ ap (λ (v : List ℕ). next_word nk v i) held in
+    sym (next_word-take nk w i above after) ∙ ap (λ (v : List ℕ). next_word nk v i) held in
     ap (take (4 * (i + 1))) made ∙ take_at (take (4 * i) w ++ next) (drop (4 * i + 4) w) (4 * (i + 1)) size
     ∙ rw (steps, place, ← same, ← held) refl
 
@@ -137,8 +137,8 @@ pub schedule_done : (nk i : ℕ) (key words : List ℕ) → length key ≡ 4 * n
 unfolding key_expansion
 schedule_done nk i key words size end held =
     let begin : take (4 * nk) words ≡ key =
-      sym (take-take (4 * nk) (4 * i) words (omega arith)) ∙ ap (take (4 * nk)) held
-      ∙ ap (λ (n : ℕ). take n (words_after nk key (i - nk))) (sym size) ∙ take-words_after nk key (i - nk) in
+    sym (take-take (4 * nk) (4 * i) words (omega arith)) ∙ ap (take (4 * nk)) held
+    ∙ ap (λ (n : ℕ). take n (words_after nk key (i - nk))) (sym size) ∙ take-words_after nk key (i - nk) in
     let nk_is : length key / 4 ≡ nk = omega arith in
     let all : 16 * (nk + 6 + 1) ≡ 4 * i = omega arith in
     let count : i - nk ≡ 4 * (nk + 6 + 1) - nk = omega arith in

@@ -5,7 +5,6 @@ use Rattle.std.specs.Int.{bit_at}
 
 infixl 50 ◌⊕◌
 infixl 60 ◌•◌
-
 -- addition: the exclusive or of the bits (4.1)
 abbrev pub ◌⊕◌ : ℕ → ℕ → ℕ
 b ⊕ c = bit_xor b c

@@ -14,7 +14,7 @@ rounds-preserved g c =
     let number : c.rounds.round ≡ suc (c.rounds.round - 1) = omega arith in
     rw next (c.add_round_key-in-rounds.ensures
     ∙ rw (c.mix_columns.ensures, c.shift_rows.ensures, c.sub_bytes.ensures, c.rounds.invariant)
-      (ap (add_round_key (mix_columns (shift_rows (sub_bytes (state_after c.self.inside.words c.args.block.now (c.rounds.round - 1))))) c.self.inside.words) number))
+    (ap (add_round_key (mix_columns (shift_rows (sub_bytes (state_after c.self.inside.words c.args.block.now (c.rounds.round - 1))))) c.self.inside.words) number))
 
 pub returns : goal.returns
 unfolding cipher
@@ -22,5 +22,5 @@ returns g c =
     let last : c.rounds.round ≡ g.row.NK + 6 = omega arith in
     c.add_round_key-2.ensures
     ∙ rw (c.shift_rows-2.ensures, c.sub_bytes-2.ensures, c.rounds.invariant, last)
-      (cipher_of_schedule g.row.NK c.self.inside.words c.args.self.now c.args.block.now
-      c.self.invariant.0 c.self.told c.self.invariant.1 c.self.view_is)
+    (cipher_of_schedule g.row.NK c.self.inside.words c.args.self.now c.args.block.now
+    c.self.invariant.0 c.self.told c.self.invariant.1 c.self.view_is)

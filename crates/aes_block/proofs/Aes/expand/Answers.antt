@@ -22,16 +22,16 @@ words-preserved g c =
     record {
       size = c.put_word.array_long;
       held =
-        words_after-more nk i c.args.key.now c.words.words c.put_word.new.words above (omega arith) (omega arith)
-        c.words.invariant.held (rw c.next_word-word.ensures at c.put_word.ensures);
+          words_after-more nk i c.args.key.now c.words.words c.put_word.new.words above (omega arith) (omega arith)
+          c.words.invariant.held (rw c.next_word-word.ensures at c.put_word.ensures);
       constant =
-        elim c.if-i-eq0.branch [
-          | then-i-eq0 w ↦
-              w.round_constant-is ∙ rw (w.xtimes-round_constant.ensures, c.words.invariant.constant)
-              (round_constant-next nk i above (omega arith) w.if-i-eq0.true)
-          | else-i-eq0 w ↦
-              w.round_constant-is ∙ c.words.invariant.constant ∙ round_constant-same nk i above w.if-i-eq0.false
-        ];
+          elim c.if-i-eq0.branch [
+            | then-i-eq0 w ↦
+                w.round_constant-is ∙ rw (w.xtimes-round_constant.ensures, c.words.invariant.constant)
+                (round_constant-next nk i above (omega arith) w.if-i-eq0.true)
+            | else-i-eq0 w ↦
+                w.round_constant-is ∙ c.words.invariant.constant ∙ round_constant-same nk i above w.if-i-eq0.false
+          ];
     }
 
 pub invariant_of-result : goal.invariant_of-result

@@ -7,7 +7,7 @@ pub returns-then-i-nk-eq0 : goal.returns-then-i-nk-eq0
 returns-then-i-nk-eq0 c =
     c.add_words.ensures
     ∙ rw (c.sub_word.ensures, c.rot_word.ensures, c.requires.constant)
-      (sym (temp-multiple c.args.nk c.args.i c.args.previous c.requires.words c.requires.after_key c.if-i-nk-eq0.true))
+    (sym (temp-multiple c.args.nk c.args.i c.args.previous c.requires.words c.requires.after_key c.if-i-nk-eq0.true))
 
 pub returns-then-i-nk-eq4 : goal.returns-then-i-nk-eq4
 returns-then-i-nk-eq4 c =

@@ -13,8 +13,8 @@ returns c =
     state_from_places c.bytes.state (λ row column. at s row column ⊕ byte_of_word w (4 * round + column) row)
     c.bytes.invariant.size
     (λ k lt.
-      let place : k ≡ k % 4 + 4 * (k / 4) = omega arith in
-      let key_place : 16 * round + k ≡ 4 * (4 * round + k / 4) + k % 4 = omega arith in
-      c.bytes.invariant.done k (omega arith)
-      ∙ ap (λ (x : ℕ). slice_index s x ⊕ slice_index w (16 * round + k)) place
-      ∙ ap (λ (x : ℕ). slice_index s (k % 4 + 4 * (k / 4)) ⊕ slice_index w x) key_place)
+    let place : k ≡ k % 4 + 4 * (k / 4) = omega arith in
+    let key_place : 16 * round + k ≡ 4 * (4 * round + k / 4) + k % 4 = omega arith in
+    c.bytes.invariant.done k (omega arith)
+    ∙ ap (λ (x : ℕ). slice_index s x ⊕ slice_index w (16 * round + k)) place
+    ∙ ap (λ (x : ℕ). slice_index s (k % 4 + 4 * (k / 4)) ⊕ slice_index w x) key_place)

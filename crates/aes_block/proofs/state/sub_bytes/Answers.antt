@@ -9,5 +9,5 @@ returns c =
     let s = c.args.state.now in
     state_from_places c.bytes.state (λ row column. sbox (at s row column)) c.bytes.invariant.size
     (λ k lt.
-      let place : k ≡ k % 4 + 4 * (k / 4) = omega arith in
-      c.bytes.invariant.done k (omega arith) ∙ ap (λ (x : ℕ). sbox (slice_index s x)) place)
+    let place : k ≡ k % 4 + 4 * (k / 4) = omega arith in
+    c.bytes.invariant.done k (omega arith) ∙ ap (λ (x : ℕ). sbox (slice_index s x)) place)
