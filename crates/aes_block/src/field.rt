@@ -1,10 +1,12 @@
-// Bytes as elements of GF(2^8) (FIPS 197, section 4), and the S-box over them.
+// Bytes as elements of GF(2^8) (FIPS 197, section 4), and the S-box over them. All is inlined, so that
+// the compiler computes the S-box of a state's sixteen bytes side by side.
 
 ghost use Rattle.std.specs.Prelude.{◌≡◌};
 ghost use Rattle.aes_block.specs.Field.{◌•◌, inverse, xtimes};
 ghost use Rattle.aes_block.specs.Cipher.{affine, sbox};
 
 // XTIMES (4.2).
+#[inline(always)]
 pub(crate) fn xtimes(b: u8) -> u8
     ensures { result ≡ xtimes b }
 {
@@ -12,6 +14,7 @@ pub(crate) fn xtimes(b: u8) -> u8
 }
 
 // The product of two bytes (4.2).
+#[inline(always)]
 fn multiply(b: u8, c: u8) -> u8
     ensures { result ≡ b • c }
 {
@@ -27,6 +30,7 @@ fn multiply(b: u8, c: u8) -> u8
 }
 
 // The multiplicative inverse: the power 254, by the powers that the names say (4.4).
+#[inline(always)]
 fn inverse(b: u8) -> u8
     ensures { result ≡ inverse b }
 {
@@ -44,6 +48,7 @@ fn inverse(b: u8) -> u8
 }
 
 // The affine map (5.1.1).
+#[inline(always)]
 fn affine(b: u8) -> u8
     ensures { result ≡ affine b }
 {
@@ -51,6 +56,7 @@ fn affine(b: u8) -> u8
 }
 
 // SBOX (5.1.1).
+#[inline(always)]
 pub(crate) fn sbox(b: u8) -> u8
     ensures { result ≡ sbox b }
 {

@@ -13,6 +13,9 @@ mod field;
 mod schedule;
 mod state;
 
+// What the number of rounds has above the number of words in the key (Table 3).
+const EXTRA_ROUNDS: usize = 6;
+
 // The most bytes that a key schedule has: the 60 words of AES-256.
 const SCHEDULE_LEN: usize = 240;
 
@@ -43,10 +46,11 @@ impl<const NK: usize> Aes<NK> {
         requires whole { length key.now ≡ 4 * NK }
         ensures { result ≡ key.now }
     {
+        let rounds = NK + EXTRA_ROUNDS;
         let mut words = [0; SCHEDULE_LEN];
         words[..4 * NK].copy_from_slice(key);
         let mut round_constant = 1;
-        'words: for i in NK..4 * (NK + 7) {
+        'words: for i in NK..4 * (rounds + 1) {
             let word = next_word(&words, NK, i, round_constant);
             put_word(&mut words, i, word);
             if i % NK == 0 {
@@ -61,7 +65,8 @@ impl<const NK: usize> Aes<NK> {
         ensures { block.new ≡ aes self.now block.old }
     {
         add_round_key(block, &self.words, 0);
-        'rounds: for round in 1..NK + 6 {
+        let rounds = NK + EXTRA_ROUNDS;
+        'rounds: for round in 1..rounds {
             sub_bytes(block);
             shift_rows(block);
             mix_columns(block);
@@ -69,7 +74,7 @@ impl<const NK: usize> Aes<NK> {
         }
         sub_bytes(block);
         shift_rows(block);
-        add_round_key(block, &self.words, NK + 6);
+        add_round_key(block, &self.words, rounds);
     }
 }
 
