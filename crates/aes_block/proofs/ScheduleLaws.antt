@@ -1,10 +1,10 @@
 -- The key schedule word by word, as a loop over the words makes it.
-use Rattle.std.proofs.Common.{◌≡◌, ◌≢◌, ℕ, zero, suc, ◌+◌, ◌-◌, ◌*◌, ◌/◌, ◌%◌, ◌<◌, ◌≤◌, List, [], ◌∷◌, ◌++◌, length, take, drop, get_or, slice_index, refl, sym, ap, ◌∙◌, arith}
+use Rattle.std.proofs.Common.{◌≡◌, ◌≢◌, ℕ, zero, suc, ◌+◌, ◌-◌, ◌*◌, ◌/◌, ◌%◌, ◌<◌, ◌≤◌, List, [], ◌∷◌, ◌++◌, length, take, drop, refl, sym, ap, ◌∙◌, arith}
 use Rattle.std.proofs.Math.Nat.{add-mul, div-add-mod', div-eq_of_lt-le, one-mul, suc-mul, zero-mul}
 use Rattle.std.proofs.lemmas.Bool.Decides.{nat_tests}
-use Rattle.std.proofs.lemmas.List.{append_assoc, get_or-take, length-append, length-drop, length-take-le, take-append-le, take-take, take_all, take_at}
+use Rattle.std.proofs.lemmas.List.{get_or-take, length-append, length-drop, length-take-le, take-append-le, take-take, take_all, take_at}
 use Rattle.aes_block.specs.Field.{power, xtimes}
-use Rattle.aes_block.specs.Cipher.{add_round_key, add_words, byte_of_word, key_expansion, key_words, next_word, rcon, rot_word, sub_word, temp, word, words_after}
+use Rattle.aes_block.specs.Cipher.{add_words, key_expansion, next_word, rcon, rot_word, sub_word, temp, word, words_after}
 use Rattle.aes_block.proofs.FieldLaws.{product-two}
 
 -- ---- quotients

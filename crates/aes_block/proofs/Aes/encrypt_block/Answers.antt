@@ -1,4 +1,4 @@
-use Rattle.std.proofs.Common.{◌≡◌, List, ℕ, ◌+◌, ◌-◌, suc, ap, ◌∙◌, arith}
+use Rattle.std.proofs.Common.{◌≡◌, ◌+◌, ◌-◌, suc, ap, ◌∙◌, arith}
 use Rattle.aes_block.specs.Cipher.{add_round_key, cipher, mix_columns, shift_rows, state_after, sub_bytes}
 use Rattle.aes_block.proofs.CipherLaws.{cipher_of_schedule}
 use Rattle.aes_block.proofs.Aes.encrypt_block.Goals as goal

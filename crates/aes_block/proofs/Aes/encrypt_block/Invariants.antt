@@ -1,4 +1,4 @@
-use Rattle.std.proofs.Common.{◌≡◌, ℕ, ◌+◌, ◌-◌, ◌*◌, take}
+use Rattle.std.proofs.Common.{◌≡◌, ◌-◌}
 use Rattle.aes_block.specs.Cipher.{state_after}
 use Rattle.aes_block.proofs.Aes.encrypt_block.Given as goal
 

@@ -1,4 +1,4 @@
-use Rattle.std.proofs.Common.{◌≡◌, ℕ, ◌+◌, ◌-◌, ◌*◌, ◌/◌, length, take}
+use Rattle.std.proofs.Common.{◌≡◌, ◌-◌, ◌*◌, ◌/◌, length, take}
 use Rattle.aes_block.specs.Field.{power}
 use Rattle.aes_block.specs.Cipher.{words_after}
 use Rattle.aes_block.proofs.Aes.expand.Given as goal

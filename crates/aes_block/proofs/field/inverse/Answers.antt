@@ -1,4 +1,4 @@
-use Rattle.std.proofs.Common.{refl, sym, arith}
+use Rattle.std.proofs.Common.{sym, arith}
 use Rattle.aes_block.specs.Field.{inverse}
 use Rattle.aes_block.proofs.FieldLaws.{power-one, power_of_product}
 use Rattle.aes_block.proofs.field.inverse.Goals as goal

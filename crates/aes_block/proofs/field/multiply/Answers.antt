@@ -1,6 +1,6 @@
-use Rattle.std.proofs.Common.{◌≡◌, ℕ, ◌+◌, ◌-◌, ◌*◌, ◌/◌, ◌%◌, suc, refl, sym, ap, ◌∙◌, arith, bit_and}
+use Rattle.std.proofs.Common.{◌≡◌, ◌+◌, ◌-◌, ◌*◌, ◌/◌, ◌%◌, suc, refl, sym, ◌∙◌, arith, bit_and}
 use Rattle.std.specs.Int.Bits.{and_mask, xor_assoc, xor_zero_r}
-use Rattle.aes_block.specs.Field.{◌⊕◌, ◌•◌, sum_of_multiples, xtimes}
+use Rattle.aes_block.specs.Field.{◌•◌, sum_of_multiples, xtimes}
 use Rattle.aes_block.proofs.field.multiply.Goals as goal
 
 pub bits-init : goal.bits-init

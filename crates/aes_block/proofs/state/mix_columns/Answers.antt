@@ -1,4 +1,4 @@
-use Rattle.std.proofs.Common.{◌≡◌, ℕ, ◌+◌, ◌-◌, ◌*◌, ◌/◌, ◌%◌, ◌∙◌, get_or, refl, arith}
+use Rattle.std.proofs.Common.{◌≡◌, ◌+◌, ◌-◌, ◌*◌, ◌/◌, ◌%◌, ◌∙◌, refl, arith}
 use Rattle.aes_block.specs.Field.{◌⊕◌, ◌•◌}
 use Rattle.aes_block.specs.Cipher.{at, mix_columns}
 use Rattle.aes_block.proofs.CipherLaws.{state_from_places}
