@@ -1,0 +1,5 @@
+pub mod Checked
+pub mod FieldLaws
+pub mod CipherLaws
+pub mod ScheduleLaws
+mod Examples

@@ -1,0 +1,6 @@
+use Rattle.std.proofs.Common.{◌∙◌}
+use Rattle.byte_fields.proofs.FieldLaws.{get_field}
+use Rattle.byte_fields.proofs.get_u32.Goals as goal
+
+pub returns : goal.returns
+returns c = c.read_u32.ensures ∙ get_field 4 c.args.at c.args.bytes.now c.requires
