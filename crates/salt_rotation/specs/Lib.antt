@@ -1,0 +1,4 @@
+pub mod SeedWords
+pub mod Salts
+pub mod SaltState
+pub mod SaltsFields

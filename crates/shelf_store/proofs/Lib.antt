@@ -1,0 +1,2 @@
+pub mod ArmingLaws
+pub mod SlotLists

@@ -1,0 +1,4 @@
+pub mod ShelfState
+pub mod SlotState
+pub mod SlotFields
+pub mod MemShelfFields
