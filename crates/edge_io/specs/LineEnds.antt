@@ -1,8 +1,6 @@
 -- Where a reader finds the end of a line.
 use Rattle.std.specs.Prelude.{◌≡◌, ◌≢◌, ℕ, ◌+◌, ◌-◌, ◌<◌, ◌≤◌, List, ◌++◌, [], ◌∷◌, length, take, drop, slice_index, ◌==◌, if◌then◌else◌}
 use Rattle.std.specs.List.{AllByRecursion}
-use Rattle.std.specs.declared.option.Option.{Option}
-use Rattle.std.specs.Io.KnownBytes.{IsAtEnd}
 use Rattle.edge_io.specs.declared.line_reader.LineEnd.{LineEnd}
 use Rattle.edge_io.specs.declared.line_reader.LineEnd.TheVariants.{Feed, Input, TooFar}
 use Rattle.edge_io.specs.declared.line_reader.TheConstants.{TOO_LONG}
@@ -18,11 +16,11 @@ pub record IsFirstFeed (bytes : List ℕ) (at : ℕ) : Type 0 where
   pub before : HasNoFeed (take at bytes)
   pub feed : drop at bytes ≡ line_feed ∷ drop (at + 1) bytes
 
--- a reader with these bytes, whose source has these left where it tells them, found the end of the next line
-abbrev pub EndsAt : List ℕ → Option (List ℕ) → LineEnd → Type 0
-EndsAt pending left (Feed at) = IsFirstFeed pending at
-EndsAt pending left Input = HasNoFeed pending × IsAtEnd left
-EndsAt pending left TooFar = HasNoFeed pending × (TOO_LONG ≤ length pending)
+-- the end of the next line, as far as these bytes of it tell
+abbrev pub EndsAt : List ℕ → LineEnd → Type 0
+EndsAt bytes (Feed at) = IsFirstFeed bytes at
+EndsAt bytes Input = HasNoFeed bytes
+EndsAt bytes TooFar = HasNoFeed bytes × (TOO_LONG ≤ length bytes)
 
 -- without one carriage return at the end
 abbrev pub strip_return : List ℕ → List ℕ

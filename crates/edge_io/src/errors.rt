@@ -1,4 +1,8 @@
 // Why a call on the outside has no answer.
+ghost use Rattle.std.specs.Prelude.{◌≡◌};
+ghost use Rattle.edge_io.specs.declared.errors.LineError.TheVariants as line_error;
+
+use std::alloc::AllocError;
 use thiserror::Error;
 
 /// The source or sink failed, and has counted a fault.
@@ -20,4 +24,26 @@ pub enum LineError {
     Long,
     #[error("no memory")]
     NoMemory,
+}
+
+impl From<AllocError> for NoMemory {
+    fn from(_: AllocError) -> Self {
+        NoMemory
+    }
+}
+
+impl From<AllocError> for LineError {
+    ghost from_gives = { λ _ error. error ≡ line_error.NoMemory };
+
+    fn from(_: AllocError) -> Self {
+        LineError::NoMemory
+    }
+}
+
+impl From<Failed> for LineError {
+    ghost from_gives = { λ _ error. error ≡ line_error.Failed };
+
+    fn from(_: Failed) -> Self {
+        LineError::Failed
+    }
 }

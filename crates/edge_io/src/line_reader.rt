@@ -1,5 +1,5 @@
 // The lines of a source.
-ghost use Rattle.std.specs.Prelude.{◌≡◌, ◌≢◌, ◌+◌, ◌<◌, ◌≤◌, ℕ, [], List, None, Some, ⊤, length, take, drop, IfNone, IfOk, IfSome, OnErr, OnOk, IsErrOf, MatchOption, All};
+ghost use Rattle.std.specs.Prelude.{◌≡◌, ◌≢◌, ◌+◌, ◌<◌, ◌≤◌, ℕ, [], List, None, Some, ⊤, length, take, drop, IfNone, IfOk, IfSome, OnErr, OnOk, IsErrOf, Ok, All, vec_len, vec_capacity};
 ghost use Rattle.std.specs.Option.{option_map};
 ghost use Rattle.std.specs.Io.{StartsWith};
 ghost use Rattle.std.specs.Io.KnownBytes.{IsAtEnd, Keeps};
@@ -61,8 +61,8 @@ impl LineReader {
     pub fn new(alloc: Global) -> Result<LineReader, NoMemory>
         ensures { IfOk result (λ reader. reader ≡ []) }
     {
-        let held = Vec::with_capacity(alloc, CAPACITY).map_err(|_| NoMemory)?;
-        let block = vec![in alloc; 0; BLOCK].map_err(|_| NoMemory)?;
+        let held = Vec::with_capacity(alloc, CAPACITY)?;
+        let block = vec![in alloc; 0; BLOCK]?;
         Ok(LineReader {
             alloc,
             held,
@@ -96,17 +96,17 @@ impl LineReader {
         ensures failed { IsErrOf result LineError.Failed → Rose (S.faults src.old) (S.faults src.new) }
         ensures no_fault { (IsErrOf result LineError.Failed → ⊥) → S.faults src.new ≡ S.faults src.old }
     {
-        match self.find_end(src).map_err(|_| LineError::Failed)? {
+        match self.find_end(src)? {
             LineEnd::Feed(at) => {
-                let len = without_return(&self.pending()[..at]);
-                Ok(Some(self.give(len, at + 1)?))
+                let len = without_return(&self.pending()[..at]).len();
+                self.give(len, at + 1)
             }
             LineEnd::Input => {
                 let len = self.pending().len();
                 if len == 0 {
                     return Ok(None);
                 }
-                Ok(Some(self.give(len, len)?))
+                self.give(len, len)
             }
             LineEnd::TooFar => Err(LineError::Long),
         }
@@ -121,7 +121,8 @@ impl LineReader {
 
     // Reads until the end of the next line is held, or more bytes than a line has.
     fn find_end<S: Source>(&mut self, src: &mut S) -> Result<LineEnd, Failed>
-        ensures end { IfOk result (EndsAt self.new (S.left src.new)) }
+        ensures end { IfOk result (EndsAt self.new) }
+        ensures input { result ≡ Ok LineEnd.Input → IfSome (S.left src.old) (λ _. IsAtEnd (S.left src.new)) }
         ensures unread { OnOk result (Keeps (unread self.old (S.left src.old)) (unread self.new (S.left src.new))) }
         ensures told { OnErr result (StillTold (unread self.old (S.left src.old)) (unread self.new (S.left src.new))) }
         ensures kept { StartsWith self.new self.old }
@@ -146,34 +147,26 @@ impl LineReader {
     fn fill<S: Source>(&mut self, src: &mut S) -> Result<usize, Failed>
         requires { length self.old < TOO_LONG }
         ensures more { IfOk result (λ count. length self.new ≡ length self.old + count) }
-        ensures end { IfOk result (λ count. count ≡ 0 → IsAtEnd (S.left src.new)) }
+        ensures end { result ≡ Ok 0 → IfSome (S.left src.old) (λ _. IsAtEnd (S.left src.new)) }
         ensures unread { OnOk result (Keeps (unread self.old (S.left src.old)) (unread self.new (S.left src.new))) }
         ensures told { OnErr result (StillTold (unread self.old (S.left src.old)) (unread self.new (S.left src.new))) }
         ensures kept { StartsWith self.new self.old }
         ensures cause { HasCause (S.faults src.old) (S.faults src.new) result }
     {
         let count = src.read(&mut self.block)?;
-        self.drop_given();
+        drop_front(&mut self.held, self.start);
+        self.start = 0;
         self.held.extend_from_slice(&self.block[..count]).unwrap();
         Ok(count)
     }
 
-    // Lets go of the bytes that were given.
-    fn drop_given(&mut self)
-    {
-        let len = self.held.len() - self.start;
-        self.held.copy_within(self.start.., 0);
-        self.held.truncate(len);
-        self.start = 0;
-    }
-
-    // Gives the first `len` bytes, and lets go of the first `taken`.
-    fn give(&mut self, len: usize, taken: usize) -> Result<Vec<u8>, LineError>
+    // Gives the first `len` bytes as a line, and lets go of the first `taken`.
+    fn give(&mut self, len: usize, taken: usize) -> Result<Option<Vec<u8>>, LineError>
         requires in_taken { len ≤ taken }
         requires in_pending { taken ≤ length self.old }
-        ensures line { IfOk result (λ line. line.items ≡ take len self.old) }
+        ensures line { IfOk result (λ line. option_map (λ line. line.items) line ≡ Some (take len self.old)) }
         ensures rest { OnOk result (self.new ≡ drop taken self.old) }
-        ensures short { OnOk result (len ≤ MAX_LINE) }
+        ensures short { IfOk result (λ line. IfSome line (λ line. length line.items ≤ MAX_LINE)) }
         ensures long { IsErrOf result LineError.Long → MAX_LINE < len }
         ensures not_failed { IsErrOf result LineError.Failed → ⊥ }
         ensures err { OnErr result (self.new ≡ self.old) }
@@ -181,10 +174,19 @@ impl LineReader {
         if len > MAX_LINE {
             return Err(LineError::Long);
         }
-        let line = self.pending()[..len].to_vec(self.alloc).map_err(|_| LineError::NoMemory)?;
+        let line = self.pending()[..len].to_vec(self.alloc)?;
         self.start += taken;
-        Ok(line)
+        Ok(Some(line))
     }
+}
+
+// Lets go of the first `count` bytes.
+fn drop_front(bytes: &mut Vec<u8>, count: usize)
+    requires { count ≤ vec_len bytes.old }
+    ensures items { bytes.new.items ≡ drop count bytes.old.items }
+    ensures capacity { vec_capacity bytes.new ≡ vec_capacity bytes.old }
+{
+    bytes.drain(..count);
 }
 
 // The first line feed.
@@ -195,13 +197,12 @@ fn position_of_feed(bytes: &[u8]) -> Option<usize>
     bytes.iter().position(|byte| *byte == b'\n')
 }
 
-// How many of these bytes stand before a carriage return at their end.
-fn without_return(bytes: &[u8]) -> usize
-    ensures stripped { take result bytes.now ≡ strip_return bytes.now }
-    ensures within { result ≤ length bytes.now }
+// The bytes without a carriage return at their end.
+fn without_return(bytes: &[u8]) -> &[u8]
+    ensures { result.now ≡ strip_return bytes.now }
 {
-    match bytes {
-        [front @ .., b'\r'] => front.len(),
-        _ => bytes.len(),
+    match bytes.strip_suffix(b"\r") {
+        Some(line) => line,
+        None => bytes,
     }
 }
