@@ -1,8 +1,8 @@
 -- Laws of lines.
-use Rattle.std.proofs.Common.{◌≡◌, ◌≢◌, ℕ, zero, suc, ◌+◌, ◌<◌, ◌≤◌, Bool, true, false, ◌||◌, ◌&&◌, List, [], ◌∷◌, ◌++◌, length, take, cond, eqb, refl, sym, ap, ◌∙◌, arith, ne_eqb}
+use Rattle.std.proofs.Common.{◌≡◌, ℕ, zero, suc, ◌+◌, ◌<◌, ◌≤◌, Bool, true, false, ◌||◌, ◌&&◌, List, [], ◌∷◌, ◌++◌, length, take, cond, eqb, refl, sym, ap, ◌∙◌, arith, ne_eqb}
 use Rattle.std.proofs.lemmas.Bool.{false≢true}
 use Rattle.std.specs.Option.{option_to_list}
-use Rattle.edge_io.specs.Lines.{begins_with, ends_line, first_line, rest_of, next_line, onto_line, lines}
+use Rattle.edge_io.specs.Lines.{begins_with, first_line, rest_of, next_line, onto_line, lines}
 use Rattle.edge_io.specs.LineEnds.{HasNoFeed, strip_return}
 
 -- a line that ends at once is empty
@@ -29,7 +29,7 @@ lines_more : (byte : ℕ) (bytes : List ℕ) → lines (byte ∷ bytes) ≡ firs
 lines_more byte [] = lines_last (eqb byte 10) (eqb byte 13) byte
 lines_more byte (next ∷ bytes) =
     lines_step (eqb byte 10) (eqb byte 13 && eqb next 10) byte (next ∷ bytes) (lines_more next bytes)
-        (none_before_feed (eqb byte 13) (eqb next 10) (eqb next 13 && begins_with 10 bytes) (next ∷ first_line bytes))
+    (none_before_feed (eqb byte 13) (eqb next 10) (eqb next 13 && begins_with 10 bytes) (next ∷ first_line bytes))
 
 -- the lines of a text are its next line, if it has one, and the lines of the rest
 pub lines_next : (bytes : List ℕ) → lines bytes ≡ option_to_list (next_line bytes) ++ lines (rest_of bytes)

@@ -1,5 +1,5 @@
 -- What the bytes of a reader tell of the line that stands first.
-use Rattle.std.proofs.Common.{◌≡◌, ◌≢◌, ℕ, zero, suc, ◌+◌, ◌-◌, ◌<◌, ◌≤◌, Bool, true, false, List, [], ◌∷◌, ◌++◌, None, Some, IfSome, All, length, get_or, take, drop, cond, eqb, refl, sym, ap, subst, ◌∙◌, arith, eq-eqb, ne_eqb, add_assoc, append_assoc, take_all, take-take, take-append-drop, length-append, length-take, length-drop}
+use Rattle.std.proofs.Common.{◌≡◌, ◌≢◌, ℕ, ◌+◌, ◌-◌, ◌<◌, ◌≤◌, Bool, true, false, List, [], ◌∷◌, ◌++◌, None, Some, IfSome, All, length, get_or, take, drop, cond, eqb, refl, sym, ap, subst, ◌∙◌, arith, ne_eqb, add_assoc, append_assoc, take_all, take-take, take-append-drop, length-append, length-take, length-drop}
 use Rattle.std.proofs.Math.Seq.{take-add}
 use Rattle.std.proofs.lemmas.List.{take_more, append-nil, drop-drop, drop_all}
 use Rattle.std.proofs.lemmas.List.Elements.{All-from_recursion}
@@ -143,17 +143,17 @@ module _ (before : List ℕ) {now : List ℕ} {was left : Option (List ℕ)} {le
   pub line_told : (line : Option (List ℕ)) → line ≡ Some (take len now) → IfSome (unread before was) (λ bytes. line ≡ next_line bytes)
   line_told line is =
       told_before before now was left (λ bytes. line ≡ next_line bytes) kept
-          (λ old more w l. is ∙ ap Some (sym (spans.first old more w l)) ∙ sym (next_line-some (now ++ more) (omega (arith, length-append now more, spans.some))))
+      (λ old more w l. is ∙ ap Some (sym (spans.first old more w l)) ∙ sym (next_line-some (now ++ more) (omega (arith, length-append now more, spans.some))))
 
   pub rest_told : (new : List ℕ) → new ≡ drop taken now → IfSome (unread before was) (λ bytes. unread new left ≡ Some (rest_of bytes))
   rest_told new is =
       told_before before now was left (λ bytes. unread new left ≡ Some (rest_of bytes)) kept
-          (λ old more w l. ap (unread new) l ∙ ap (λ p. Some (p ++ more)) is ∙ ap Some (sym (spans.rest old more w l)))
+      (λ old more w l. ap (unread new) l ∙ ap (λ p. Some (p ++ more)) is ∙ ap Some (sym (spans.rest old more w l)))
 
   pub long_told : (n : ℕ) → n < len → IfSome (unread before was) (λ bytes. n < length (first_line bytes))
   long_told n long =
       told_before before now was left (λ bytes. n < length (first_line bytes)) kept
-          (λ old more w l. omega (arith, ap length (spans.first old more w l), length-take len now, spans.within, long))
+      (λ old more w l. omega (arith, ap length (spans.first old more w l), length-take len now, spans.within, long))
 
   pub long_here : (new : List ℕ) (n : ℕ) → new ≡ now → n < len → n < length (first_line new)
   long_here new n is long = omega (arith, ap (λ b. length (first_line b)) is, ap length spans.here, length-take len now, spans.within, long)
@@ -166,4 +166,4 @@ pub far_told : (before now : List ℕ) (was left : Option (List ℕ)) → Keeps 
     → IfSome (unread before was) (λ bytes. 65536 < length (first_line bytes))
 far_told before now was left kept none far =
     told_before before now was left (λ bytes. 65536 < length (first_line bytes)) kept
-        (λ old more w l. omega (arith, length-first_line now more none, far))
+    (λ old more w l. omega (arith, length-first_line now more none, far))

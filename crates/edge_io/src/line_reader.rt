@@ -186,7 +186,12 @@ fn drop_front(bytes: &mut Vec<u8>, count: usize)
     ensures items { bytes.new.items ≡ drop count bytes.old.items }
     ensures capacity { vec_capacity bytes.new ≡ vec_capacity bytes.old }
 {
-    bytes.drain(..count);
+    if count == 0 {
+        return;
+    }
+    let rest = bytes.len() - count;
+    bytes.copy_within(count.., 0);
+    bytes.truncate(rest);
 }
 
 // The first line feed.

@@ -71,10 +71,10 @@ impl Model for MemSource {
     ghost Value = { InMemory };
 
     ghost view = { λ source. record {
-        bytes = drop source.start source.bytes.items;
-        calls = source.calls.made;
-        fails = source.calls.fails.items;
-        faults = source.calls.faults
+      bytes = drop source.start source.bytes.items;
+      calls = source.calls.made;
+      fails = source.calls.fails.items;
+      faults = source.calls.faults;
     } };
 
     ghost invariant = { λ source. source.start ≤ length source.bytes.items };
@@ -133,10 +133,10 @@ impl Model for MemSink {
     ghost Value = { InMemory };
 
     ghost view = { λ sink. record {
-        bytes = sink.bytes.items;
-        calls = sink.calls.made;
-        fails = sink.calls.fails.items;
-        faults = sink.calls.faults
+      bytes = sink.bytes.items;
+      calls = sink.calls.made;
+      fails = sink.calls.fails.items;
+      faults = sink.calls.faults;
     } };
 }
 

@@ -10,4 +10,4 @@ returns-in-Some-clause-end g c =
     let searched = c.loop-at.searched in
     let rest = take_rest c.pending.result.now searched ∙ ap (drop searched) c.pending.ensures in
     IsFirstFeed-after c.loop-at.self searched c.in-Some.at kept.before kept.within
-        (subst (λ (bytes : List ℕ). IsFirstFeed bytes c.in-Some.at) rest c.in-Some.ensures.found)
+    (subst (λ (bytes : List ℕ). IsFirstFeed bytes c.in-Some.at) rest c.in-Some.ensures.found)

@@ -1,4 +1,4 @@
-use Rattle.std.proofs.Common.{◌≡◌, Ok, length, take, ap, ◌∙◌, arith}
+use Rattle.std.proofs.Common.{Ok, length, take, ap, ◌∙◌, arith}
 use Rattle.std.proofs.lemmas.Result.{IfErr-at_err, IfOk-weaker, on_ok_weaker}
 use Rattle.std.specs.Option.{option_map}
 use Rattle.edge_io.specs.LineEnds.{strip_return}

@@ -18,6 +18,6 @@ returns-clause-moved c =
     let start = c.self.inside.start in
     let rest = take_rest bytes start ∙ ap (drop start) c.deref.ensures.value in
     copied_first c.self.inside.bytes.items c.args.self.now.bytes c.copy_from_slice.new.self c.args.out.now start c.min-count.result
-        (ap (λ (state : InMemory). state.bytes) c.self.view_is)
-        (c.copy_from_slice.ensures.after ∙ ap (take c.min-count.result) rest)
-        (omega (arith, c.min-count.ensures, ap length rest))
+    (ap (λ (state : InMemory). state.bytes) c.self.view_is)
+    (c.copy_from_slice.ensures.after ∙ ap (take c.min-count.result) rest)
+    (omega (arith, c.min-count.ensures, ap length rest))
