@@ -1,5 +1,5 @@
 -- Laws of lines.
-use Rattle.std.proofs.Common.{◌≡◌, ℕ, zero, suc, ◌+◌, ◌<◌, ◌≤◌, Bool, true, false, ◌||◌, ◌&&◌, List, [], ◌∷◌, ◌++◌, length, take, cond, eqb, refl, sym, ap, ◌∙◌, arith, ne_eqb}
+use Rattle.std.proofs.Common.{None, Some, ◌≡◌, ℕ, zero, suc, ◌+◌, ◌<◌, ◌≤◌, Bool, true, false, ◌||◌, ◌&&◌, List, [], ◌∷◌, ◌++◌, length, take, cond, eqb, refl, sym, ap, ◌∙◌, arith, ne_eqb}
 use Rattle.std.proofs.lemmas.Bool.{false≢true}
 use Rattle.std.specs.Option.{option_to_list}
 use Rattle.edge_io.specs.Lines.{begins_with, first_line, rest_of, next_line, onto_line, lines}
@@ -35,6 +35,15 @@ lines_more byte (next ∷ bytes) =
 pub lines_next : (bytes : List ℕ) → lines bytes ≡ option_to_list (next_line bytes) ++ lines (rest_of bytes)
 lines_next [] = refl
 lines_next (byte ∷ bytes) = lines_more byte bytes
+
+-- there is a next line exactly where there are bytes
+pub next_line-some : (bytes : List ℕ) → 0 < length bytes → next_line bytes ≡ Some (first_line bytes)
+next_line-some [] some = absurd (omega arith)
+next_line-some (byte ∷ bytes) some = refl
+
+pub next_line-none : (bytes : List ℕ) → next_line bytes ≡ None → bytes ≡ []
+next_line-none [] none = refl
+next_line-none (byte ∷ bytes) none = cc
 
 length-either : (b : Bool) (xs ys : List ℕ) (n : ℕ) → length xs ≤ n → length ys ≤ n → length (cond b xs ys) ≤ n
 length-either true xs ys n x y = x

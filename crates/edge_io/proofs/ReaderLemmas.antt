@@ -9,7 +9,7 @@ use Rattle.std.specs.Io.KnownBytes.{Keeps, IsAtEnd}
 use Rattle.edge_io.specs.Lines.{first_line, rest_of, next_line}
 use Rattle.edge_io.specs.LineEnds.{HasNoFeed, IsFirstFeed, strip_return}
 use Rattle.edge_io.specs.Told.{unread}
-use Rattle.edge_io.proofs.LinesLemmas.{HasNoFeed-take, first_line-feed, rest_of-feed, first_line-whole, rest_of-whole, length-first_line}
+use Rattle.edge_io.proofs.LinesLemmas.{HasNoFeed-take, first_line-feed, rest_of-feed, first_line-whole, rest_of-whole, length-first_line, next_line-some}
 
 last_split : (bytes : List ℕ) → 0 < length bytes → bytes ≡ take (length bytes - 1) bytes ++ get_or bytes (length bytes - 1) 0 ∷ []
 last_split bytes some = sym (take_all (length bytes - 1 + 1) bytes (omega arith)) ∙ take_more bytes (length bytes - 1) 0 (omega arith)
@@ -118,10 +118,6 @@ pub SpansLine-input : (was left : Option (List ℕ)) {bytes line : List ℕ} →
     → SpansLine was bytes left (length line) (length line)
 SpansLine-input was left {bytes} {line} none is some end =
     subst (λ (l : List ℕ). SpansLine was bytes left (length l) (length l)) (sym is) (SpansLine-whole was left bytes none (omega (arith, ap length is, some)) end)
-
-next_line-some : (bytes : List ℕ) → 0 < length bytes → next_line bytes ≡ Some (first_line bytes)
-next_line-some [] some = absurd (omega arith)
-next_line-some (byte ∷ bytes) some = refl
 
 -- what holds of the bytes that are unread now held of them before the reads
 pub told_before : (before now : List ℕ) (was left : Option (List ℕ)) (P : List ℕ → Type 0) → Keeps (unread before was) (unread now left)

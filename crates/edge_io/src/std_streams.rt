@@ -13,7 +13,7 @@ pub struct Reading<R: Read> {
 }
 
 impl<R: Read> Model for Reading<R> {
-    ghost use Rattle.std.specs.Prelude.{ℕ, ◌<◌, ◌^◌};
+    ghost use Rattle.std.specs.Prelude.{ℕ};
 
     ghost Value = { R × ℕ };
 
