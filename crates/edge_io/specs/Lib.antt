@@ -1,0 +1,5 @@
+pub mod Faults
+pub mod Told
+pub mod Lines
+pub mod LineEnds
+pub mod Memory

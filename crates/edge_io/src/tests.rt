@@ -1,0 +1,129 @@
+// Cuts and faults that no clause of a source rules in or out.
+ghost use Rattle.std.specs.Prelude.{None};
+
+use crate::{
+    Failed, LineError, LineReader, MAX_LINE, MemSink, MemSource, Reading, Sink, Source, Writing,
+};
+use std::alloc::Global;
+use std::io;
+use std::test::Fail;
+
+// A source that gives a few bytes at a time, and tells nothing.
+#[derive(Drop)]
+struct Pieces<'a> {
+    left: &'a [u8],
+    most: usize,
+}
+
+impl Source for Pieces<'_> {
+    ghost left = { λ _. None };
+
+    ghost faults = { λ _. 0 };
+
+    fn read(&mut self, out: &mut [u8]) -> Result<usize, Failed> {
+        let count = self.most.min(out.len()).min(self.left.len());
+        out[..count].copy_from_slice(&self.left[..count]);
+        self.left = &self.left[count..];
+        Ok(count)
+    }
+}
+
+// A writer that takes nothing.
+#[derive(Drop)]
+struct Full;
+
+impl io::Write for Full {
+    fn write(&mut self, _buf: &[u8]) -> io::Result<usize> {
+        Ok(0)
+    }
+
+    fn flush(&mut self) -> io::Result<()> {
+        Ok(())
+    }
+}
+
+fn bytes_of(line: Result<Option<Vec<u8>>, LineError>) -> Result<Vec<u8>, Fail> {
+    Ok(line?.ok_or("no line")?)
+}
+
+#[test]
+fn lines_are_the_same_however_they_are_cut_into_reads(rt: HostRuntime) -> Result<(), Fail> {
+    let alloc = rt.alloc();
+    for most in [1, 2, 3, 64] {
+        let mut source = Pieces {
+            left: b"ab\r\n\nc\rd\r\n\r\r\nlast\r",
+            most,
+        };
+        let mut reader = LineReader::new(alloc)?;
+        for line in [b"ab".as_slice(), b"", b"c\rd", b"\r", b"last\r"] {
+            assert_eq!(rt;
+                bytes_of(reader.next(&mut source))?.as_slice(),
+                line,
+                "in pieces of {most}"
+            );
+        }
+        assert!(rt; reader.next(&mut source)?.is_none());
+        assert!(rt; reader.next(&mut source)?.is_none());
+    }
+    Ok(())
+}
+
+#[test]
+fn a_line_has_at_most_65536_bytes(rt: HostRuntime) -> Result<(), Fail> {
+    let alloc = rt.alloc();
+    let mut text = vec![in alloc; b'a'; MAX_LINE]?;
+    text.extend_from_slice(b"\r\nb")?;
+    let mut source = MemSource::new(text, Vec::new(alloc));
+    let mut reader = LineReader::new(alloc)?;
+    assert_eq!(rt; bytes_of(reader.next(&mut source))?.len(), 65536);
+    assert_eq!(rt;
+        bytes_of(reader.next(&mut source))?.as_slice(),
+        b"b".as_slice()
+    );
+
+    let mut source = MemSource::new(vec![in alloc; b'a'; MAX_LINE + 9000]?, Vec::new(alloc));
+    let mut reader = LineReader::new(alloc)?;
+    assert!(rt; reader.next(&mut source) == Err(LineError::Long));
+    assert!(rt; reader.next(&mut source) == Err(LineError::Long));
+    Ok(())
+}
+
+#[test]
+fn a_fault_in_a_line_loses_nothing(rt: HostRuntime) -> Result<(), Fail> {
+    let alloc = rt.alloc();
+    let mut source = MemSource::new(vec![in alloc; b'a'; 10000]?, vec![in alloc; 1]?);
+    let mut reader = LineReader::new(alloc)?;
+    assert!(rt; reader.next(&mut source) == Err(LineError::Failed));
+    assert_eq!(rt; bytes_of(reader.next(&mut source))?.len(), 10000);
+    Ok(())
+}
+
+#[test]
+fn a_sink_fails_at_its_listed_calls(rt: HostRuntime) -> Result<(), Fail> {
+    let mut sink = MemSink::new(vec![in rt.alloc(); 1]?);
+    assert_eq!(rt; sink.write(b"ab")?, 2);
+    assert_eq!(rt; sink.write(b"cd"), Err(Failed));
+    assert_eq!(rt; sink.write(b"e")?, 1);
+    assert_eq!(rt; sink.bytes(), b"abe".as_slice());
+    Ok(())
+}
+
+#[test]
+fn readers_and_writers_of_std_pass_through(rt: HostRuntime) -> Result<(), Fail> {
+    let alloc = rt.alloc();
+    let mut source = Reading::new(b"one\ntwo".as_slice());
+    let mut reader = LineReader::new(alloc)?;
+    assert_eq!(rt;
+        bytes_of(reader.next(&mut source))?.as_slice(),
+        b"one".as_slice()
+    );
+    assert_eq!(rt;
+        bytes_of(reader.next(&mut source))?.as_slice(),
+        b"two".as_slice()
+    );
+
+    let mut sink = Writing::new(rt.stdout());
+    assert_eq!(rt; sink.write(b"\n")?, 1);
+    assert_eq!(rt; Writing::new(Full).write(b"x"), Err(Failed));
+    Ok(())
+}
