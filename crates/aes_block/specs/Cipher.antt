@@ -1,4 +1,4 @@
--- AES (FIPS 197, section 5) over lists of bytes.
+-- AES over lists of bytes (FIPS 197 of 2023, section 5).
 use Rattle.std.specs.Prelude.{ℕ, zero, suc, ◌+◌, ◌-◌, ◌*◌, ◌/◌, ◌%◌, ◌≡◌, ◌⊎◌, ◌&&◌, nat_eq, nat_lt, if◌then◌else◌, List, [], ◌∷◌, ◌++◌, length, slice_index}
 use Rattle.std.specs.Int.{bit_at}
 use Rattle.aes_block.specs.Field.{◌⊕◌, ◌•◌, inverse, power}

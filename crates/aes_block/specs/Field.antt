@@ -1,5 +1,5 @@
--- The finite field GF(2^8) of FIPS 197, section 4. A byte is a number below 256, whose bit i is the
--- coefficient of x^i of a polynomial.
+-- The finite field GF(2^8) of FIPS 197 (2023), section 4. A byte is a number below 256, whose bit i is
+-- the coefficient of x^i of a polynomial.
 use Rattle.std.specs.Prelude.{ℕ, zero, suc, ◌*◌, ◌%◌, ◌/◌, bit_xor}
 use Rattle.std.specs.Int.{bit_at}
 

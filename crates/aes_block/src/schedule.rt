@@ -42,8 +42,8 @@ pub(crate) fn put_word(words: &mut [u8; SCHEDULE_LEN], i: usize, word: [u8; 4])
     words[4 * i..4 * i + 4].copy_from_slice(&word);
 }
 
-// What is added to word `i - nk`, from the word before word `i`; the round constant is the one of the
-// last multiple of `nk` up to `i`, or of the next where `i` is none (Algorithm 2).
+// What is added to word `i - nk`, from the word before word `i` (Algorithm 2). The round constant is
+// that of the first multiple of `nk` from `i` on.
 fn temp(nk: usize, i: usize, previous: [u8; 4], round_constant: u8) -> [u8; 4]
     requires words { 0 < nk }
     requires after_key { nk ≤ i }
