@@ -87,8 +87,8 @@ one_line_ends WriteFault n (Ok line) rest old new t0 t1 replied = record {
   replies = replied.part;
   taken = replied.taken;
   ends =
-    let after : List ℕ = (rest (answer_of n old line).datasets).replies in
-    (replied.front.0 ++ after, ap (λ bytes. bytes ++ after) replied.front.1 ∙ append_assoc replied.part replied.front.0 after);
+      let after : List ℕ = (rest (answer_of n old line).datasets).replies in
+      (replied.front.0 ++ after, ap (λ bytes. bytes ++ after) replied.front.1 ∙ append_assoc replied.part replied.front.0 after);
 }
 one_line_ends WriteFault n (Err at) rest old new t0 t1 replied = absurd replied
 one_line_ends NoMemory n o rest old new t0 t1 replied = record { replies = []; taken = took_nothing t0 t1 replied; ends = ((goes_on n old o rest).replies, refl) }
@@ -96,8 +96,8 @@ one_line_ends (BadLine number at) n o rest old new t0 t1 replied = record {
   replies = [];
   taken = took_nothing t0 t1 replied.2;
   ends =
-    let P : Result Line ℕ → Type 0 = λ outcome. goes_on n old outcome rest ≡ record { status = 3; replies = []; last = bad_line number at } in
-    subst P (sym replied.1) (ap (λ m. let run : Run = record { status = 3; replies = []; last = bad_line m at } in run) (sym replied.0));
+      let P : Result Line ℕ → Type 0 = λ outcome. goes_on n old outcome rest ≡ record { status = 3; replies = []; last = bad_line number at } in
+      subst P (sym replied.1) (ap (λ m. let run : Run = record { status = 3; replies = []; last = bad_line m at } in run) (sym replied.0));
 }
 
 pub line_ran : (told left : Option (List ℕ)) (n : ℕ) (line : List ℕ) (r : Option Ending) (old new : Datasets) (t0 t1 : Option (List ℕ)) → n ≤ 1048576 → length line ≤ 65536
@@ -122,7 +122,7 @@ goes_more a b c t0 t1 t2 p q = record {
   replies = p.replies ++ q.replies;
   taken = Appends-append t0 t1 t2 p.replies q.replies p.taken q.taken;
   goes_on = p.goes_on ∙ ap (preceded p.replies) q.goes_on
-    ∙ ap (λ replies. let run : Run = record { status = c.status; replies = replies; last = c.last } in run) (sym (append_assoc p.replies q.replies c.replies));
+      ∙ ap (λ replies. let run : Run = record { status = c.status; replies = replies; last = c.last } in run) (sym (append_assoc p.replies q.replies c.replies));
 }
 
 precedes_end : (e : Ending) (b : Run) (front replies : List ℕ) → EndsAs e b replies → EndsAs e (preceded front b) (front ++ replies)
@@ -146,8 +146,8 @@ goes_ends e a b t0 t1 t2 p q = record {
   replies = p.replies ++ q.replies;
   taken = taken_after e t0 t1 t2 p.replies q.replies p.taken q.taken;
   ends =
-    let P : Run → Type 0 = λ run. EndsAs e run (p.replies ++ q.replies) in
-    subst P (sym p.goes_on) (precedes_end e b p.replies q.replies q.ends);
+      let P : Run → Type 0 = λ run. EndsAs e run (p.replies ++ q.replies) in
+      subst P (sym p.goes_on) (precedes_end e b p.replies q.replies q.ends);
 }
 
 -- a run from its first line on has come to line n, with these bytes unread
@@ -316,7 +316,7 @@ wrote_any : (e closed : Ending) (run : Run) (rose : Type 0) (before : List ℕ) 
     → IfSome t2 (λ after. Wrote run (status_of closed) rose before after)
 wrote_any (BadLine number at) closed run rose before t1 t2 ends closes_as line kept =
     ⊎_elim (λ same. wrote_closed (BadLine number at) closed run rose before t1 t2 ends same line kept)
-      (λ same. wrote_without_memory number at closed run rose before t1 t2 ends same line) closes_as
+    (λ same. wrote_without_memory number at closed run rose before t1 t2 ends same line) closes_as
 wrote_any Done closed run rose before t1 t2 ends closes_as line kept = wrote_closed Done closed run rose before t1 t2 ends closes_as line kept
 wrote_any Usage closed run rose before t1 t2 ends closes_as line kept = wrote_closed Usage closed run rose before t1 t2 ends closes_as line kept
 wrote_any ReadFault closed run rose before t1 t2 ends closes_as line kept = wrote_closed ReadFault closed run rose before t1 t2 ends closes_as line kept

@@ -9,3 +9,6 @@ mod run;
 
 pub use found::{Found, FoundEntry, FoundKind};
 pub use run::run_alone;
+
+#[cfg(test)]
+mod tests;

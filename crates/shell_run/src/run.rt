@@ -22,7 +22,7 @@ use shell_lines::LineStop;
 use std::alloc::{AllocError, Global};
 
 /// The most lines of a script.
-const MAX_LINES: u32 = 1048576;
+pub(crate) const MAX_LINES: u32 = 1048576;
 
 /// The first line past those that a script may have isn't read.
 const TOO_MANY_LINES: Ending = Ending::BadLine {
@@ -31,7 +31,9 @@ const TOO_MANY_LINES: Ending = Ending::BadLine {
 };
 
 const USAGE_LINE: &[u8] = b"usage: zfs_shell [--max-salt-uses N] [--generate N]\n";
+
 const READ_FAULT_LINE: &[u8] = b"read fault\n";
+
 const NO_MEMORY_LINE: &[u8] = b"no memory\n";
 
 /// Runs a script, prints its replies, and answers the status of the program:
@@ -122,7 +124,7 @@ fn start(alloc: Global) -> Result<(LineReader, Tree), NoMemory>
 }
 
 /// Runs the lines from this number on.
-fn run_lines<S: Source, O: Sink>(
+pub(crate) fn run_lines<S: Source, O: Sink>(
     alloc: Global,
     first: u32,
     tree: &mut Tree,

@@ -9,7 +9,7 @@ returns-in-Some-clause-told g c =
     let now : Option (List ℕ) = unread c.loop-number.reader (g.S.Source.left c.loop-number.script) in
     let left : Option (List ℕ) = unread c.run_line.new.reader (g.S.Source.left c.run_line.new.script) in
     reached_end c.in-Some.ending c.args.first c.loop-number.number told now left c.args.tree.now c.loop-number.tree c.run_line.new.tree
-      (g.O.Sink.taken c.args.out.now) (g.O.Sink.taken c.loop-number.out) (g.O.Sink.taken c.run_line.new.out) c.loop-number.invariant.reached c.in-Some.ensures.told
+    (g.O.Sink.taken c.args.out.now) (g.O.Sink.taken c.loop-number.out) (g.O.Sink.taken c.run_line.new.out) c.loop-number.invariant.reached c.in-Some.ensures.told
 
 pub loop-number-preserved : goal.loop-number-preserved
 loop-number-preserved g c =
@@ -18,7 +18,7 @@ loop-number-preserved g c =
     let left : Option (List ℕ) = unread c.run_line.new.reader (g.S.Source.left c.run_line.new.script) in
     record {
       reached = reached_more c.args.first c.loop-number.number told now left c.args.tree.now c.loop-number.tree c.run_line.new.tree
-        (g.O.Sink.taken c.args.out.now) (g.O.Sink.taken c.loop-number.out) (g.O.Sink.taken c.run_line.new.out) c.loop-number.invariant.reached c.in_default.ensures.told;
+          (g.O.Sink.taken c.args.out.now) (g.O.Sink.taken c.loop-number.out) (g.O.Sink.taken c.run_line.new.out) c.loop-number.invariant.reached c.in_default.ensures.told;
       source = c.in_default.ensures.source ∙ c.loop-number.invariant.source;
       sink = c.in_default.ensures.sink ∙ c.loop-number.invariant.sink;
     }
@@ -30,4 +30,4 @@ returns-clause-told g c =
     let P : ℕ → Type 0 = λ n. Reached c.args.first n told now c.args.tree.now c.loop-number.tree (g.O.Sink.taken c.args.out.now) (g.O.Sink.taken c.loop-number.out) in
     let last : c.loop-number.number ≡ 1048577 = omega arith in
     reached_limit c.end_at_limit.result c.args.first told now c.args.tree.now c.loop-number.tree
-      (g.O.Sink.taken c.args.out.now) (g.O.Sink.taken c.loop-number.out) (subst P last c.loop-number.invariant.reached) c.end_at_limit.ensures.told
+    (g.O.Sink.taken c.args.out.now) (g.O.Sink.taken c.loop-number.out) (subst P last c.loop-number.invariant.reached) c.end_at_limit.ensures.told

@@ -1,0 +1,213 @@
+// What a run prints, and what faults leave of it.
+ghost use Rattle.std.specs.Prelude.{None, [], IfOk, ◌≡◌};
+
+use super::*;
+use crate::ending::Ending;
+use crate::run::{MAX_LINES, run_lines};
+use dataset_tree::Tree;
+use edge_io::{Failed, LineReader, MemSink, MemSource, Source};
+use std::alloc::Global;
+use std::test::Fail;
+
+// A source that gives a few bytes at a time, and whose call of this number fails.
+#[derive(Drop)]
+struct Pieces<'a> {
+    left: &'a [u8],
+    calls: u32,
+    fails_at: u32,
+    faults: u64,
+}
+
+impl Source for Pieces<'_> {
+    ghost left = { λ _. None };
+
+    ghost faults = { λ pieces. pieces.faults };
+
+    fn read(&mut self, out: &mut [u8]) -> Result<usize, Failed> {
+        let number = self.calls;
+        self.calls = number.saturating_add(1);
+        if number == self.fails_at {
+            self.faults = self.faults.saturating_add(1);
+            return Err(Failed);
+        }
+        let count = out.len().min(self.left.len()).min(5);
+        out[..count].copy_from_slice(&self.left[..count]);
+        self.left = &self.left[count..];
+        Ok(count)
+    }
+}
+
+fn calls_that_fail(alloc: Global, fails: &[u32]) -> Result<Vec<u32>, Fail> {
+    Ok(Vec::from_slice(alloc, fails)?)
+}
+
+fn nothing_found(alloc: Global) -> Result<Found, Fail>
+    ensures { IfOk result (λ found. found ≡ []) }
+{
+    match Found::new(alloc) {
+        Ok(found) => Ok(found),
+        Err(error) => Err(Fail::from(error)),
+    }
+}
+
+const TREE: &[u8] =
+    b"create tank\ncreate tank/home\n# a comment\n\ncreate tank/home\ncreate lake/x\nlist";
+
+const TREE_REPLIES: &[u8] =
+    b"1 ok\n2 ok\n5 error 2 Exists\n6 error 4 NoParent\n7 set tank plain\n7 set tank/home plain\n7 ok\n";
+
+#[test]
+fn scripts_have_their_transcripts(rt: HostRuntime) -> Result<(), Fail> {
+    let alloc = rt.alloc();
+    let rows: [(&[u8], &[u8], u8); 8] = [
+        (b"", b"", 0),
+        (TREE, TREE_REPLIES, 0),
+        (b"create tank\nfrob tank\nlist\n", b"1 ok\n2 bad 0\n", 3),
+        (
+            b"  list \r\n# \xff\n<secret\nlist x\n",
+            b"1 ok\n4 bad 5\n",
+            3,
+        ),
+        (b"create\n", b"1 bad 6\n", 3),
+        (b"list\tx\n", b"1 bad 4\n", 3),
+        (b"list\nlist\r", b"1 ok\n2 bad 4\n", 3),
+        (
+            b"create tank/\ncreate a//b",
+            b"1 error 3 BadName 5\n2 error 3 BadName 2\n",
+            0,
+        ),
+    ];
+    for (script, output, status) in rows {
+        let mut source = MemSource::new(Vec::from_slice(alloc, script)?, Vec::new(alloc));
+        let mut sink = MemSink::new(Vec::new(alloc));
+        let mut found = nothing_found(alloc)?;
+        let answered = run_alone(alloc, &[], &mut source, &mut sink, &mut found);
+        assert_eq!(rt; sink.bytes(), output);
+        assert_eq!(rt; answered, status);
+        assert!(rt; found.entries().is_empty());
+    }
+    Ok(())
+}
+
+#[test]
+fn every_word_is_usage(rt: HostRuntime) -> Result<(), Fail> {
+    let alloc = rt.alloc();
+    let mut words = Vec::new(alloc);
+    words.push(String::from_str(alloc, "--frob")?)?;
+    let mut source = MemSource::new(Vec::from_slice(alloc, b"list")?, Vec::new(alloc));
+    let mut sink = MemSink::new(Vec::new(alloc));
+    let mut found = nothing_found(alloc)?;
+    assert_eq!(rt;
+        run_alone(alloc, &words, &mut source, &mut sink, &mut found),
+        2
+    );
+    assert_eq!(rt;
+        sink.bytes(),
+        b"usage: zfs_shell [--max-salt-uses N] [--generate N]\n".as_slice()
+    );
+    Ok(())
+}
+
+#[test]
+fn a_failing_source_leaves_a_front_and_the_last_line(rt: HostRuntime) -> Result<(), Fail> {
+    let alloc = rt.alloc();
+    for fails_at in 0..20u32 {
+        let mut source = Pieces {
+            left: TREE,
+            calls: 0,
+            fails_at,
+            faults: 0,
+        };
+        let mut sink = MemSink::new(Vec::new(alloc));
+        let mut found = nothing_found(alloc)?;
+        let status = run_alone(alloc, &[], &mut source, &mut sink, &mut found);
+        if source.faults == 0 {
+            assert_eq!(rt; (status, sink.bytes()), (0, TREE_REPLIES));
+        } else {
+            assert_eq!(rt; status, 4);
+            let front = sink.bytes().strip_suffix(b"read fault\n".as_slice());
+            assert!(rt; front.is_some_and(|front| TREE_REPLIES.starts_with(front)));
+        }
+    }
+    Ok(())
+}
+
+#[test]
+fn a_failing_sink_leaves_a_front(rt: HostRuntime) -> Result<(), Fail> {
+    let alloc = rt.alloc();
+    for call in 0..6u32 {
+        let mut source = MemSource::new(Vec::from_slice(alloc, TREE)?, Vec::new(alloc));
+        let mut sink = MemSink::new(calls_that_fail(alloc, &[call])?);
+        let mut found = nothing_found(alloc)?;
+        let status = run_alone(alloc, &[], &mut source, &mut sink, &mut found);
+        let all = sink.bytes().len() == TREE_REPLIES.len();
+        assert_eq!(rt; status, if all { 0 } else { 5 });
+        assert!(rt; TREE_REPLIES.starts_with(sink.bytes()));
+        assert_eq!(rt; all, call == 5);
+    }
+    Ok(())
+}
+
+#[test]
+fn a_sink_that_fails_at_the_last_line_keeps_the_status(rt: HostRuntime) -> Result<(), Fail> {
+    let alloc = rt.alloc();
+    let mut source = MemSource::new(Vec::from_slice(alloc, b"list\nfrob\n")?, Vec::new(alloc));
+    let mut sink = MemSink::new(calls_that_fail(alloc, &[1])?);
+    let mut found = nothing_found(alloc)?;
+    assert_eq!(rt;
+        run_alone(alloc, &[], &mut source, &mut sink, &mut found),
+        3
+    );
+    assert_eq!(rt; sink.bytes(), b"1 ok\n".as_slice());
+    Ok(())
+}
+
+#[test]
+fn a_line_has_at_most_65536_bytes(rt: HostRuntime) -> Result<(), Fail> {
+    let alloc = rt.alloc();
+    for (length, output, status) in [
+        (65536usize, b"2 ok\n".as_slice(), 0),
+        (65537, b"1 bad 65536\n", 3),
+    ] {
+        let mut script = vec![in alloc; b'#'; length]?;
+        script.extend_from_slice(b"\r\nlist\n")?;
+        let mut source = MemSource::new(script, Vec::new(alloc));
+        let mut sink = MemSink::new(Vec::new(alloc));
+        let mut found = nothing_found(alloc)?;
+        let answered = run_alone(alloc, &[], &mut source, &mut sink, &mut found);
+        assert_eq!(rt; (answered, sink.bytes()), (status, output));
+    }
+    Ok(())
+}
+
+#[test]
+fn a_script_has_at_most_1048576_lines(rt: HostRuntime) -> Result<(), Fail> {
+    let alloc = rt.alloc();
+    for (script, ends_well) in [(b"list\n".as_slice(), true), (b"list\n\n", false)] {
+        let mut source = MemSource::new(Vec::from_slice(alloc, script)?, Vec::new(alloc));
+        let mut sink = MemSink::new(Vec::new(alloc));
+        let mut reader = LineReader::new(alloc)?;
+        let mut tree = Tree::new(alloc)?;
+        let ending = run_lines(
+            alloc,
+            MAX_LINES,
+            &mut tree,
+            &mut reader,
+            &mut source,
+            &mut sink,
+        );
+        assert_eq!(rt; sink.bytes(), b"1048576 ok\n".as_slice());
+        assert_eq!(rt; matches!(ending, Ending::Done), ends_well);
+        assert_eq!(rt;
+            matches!(
+                ending,
+                Ending::BadLine {
+                    number: 1048577,
+                    at: 0
+                }
+            ),
+            !ends_well
+        );
+    }
+    Ok(())
+}
