@@ -1,7 +1,6 @@
 -- One line of a run, and many.
-use Rattle.std.proofs.Common.{◌≡◌, ◌⊎◌, ℕ, ◌+◌, ◌<◌, ◌≤◌, nat_lt, Bool, true, false, List, [], ◌∷◌, ◌++◌, length, Option, Some, None, Result, Ok, Err, IfSome, IsSomeAnd, OnOk, refl, ap, sym, ◌∙◌, subst, append_assoc, arith, inl, inr, ⊎_elim}
+use Rattle.std.proofs.Common.{◌≡◌, ◌⊎◌, ℕ, ◌+◌, ◌<◌, ◌≤◌, nat_lt, false, List, [], ◌∷◌, ◌++◌, length, Option, Some, None, Result, Ok, Err, IfSome, IsSomeAnd, OnOk, refl, ap, sym, ◌∙◌, subst, append_assoc, arith, inl, inr, ⊎_elim}
 use Rattle.std.specs.Io.KnownBytes.{Appends}
-use Rattle.std.specs.Option.{option_to_list, option_map}
 use Rattle.std.proofs.lemmas.Bool.Decides.{nat_tests}
 use Rattle.dataset_tree.specs.Tree.{Datasets}
 use Rattle.edge_io.specs.Faults.{HasCause, Rose}
@@ -19,7 +18,7 @@ use Rattle.shell_run.specs.Progress.{Goes, Ends, Taken, Took, TookFront, Closes,
 use Rattle.shell_run.specs.Texts.{bad_line, usage_line, read_fault_line, no_memory_line}
 use Rattle.shell_run.specs.Transcript.{Run, preceded, goes_on, checked, run_from, answer_of}
 use Rattle.shell_run.specs.Written.{IsFront, IsAnswered, Wrote, last_line}
-use Rattle.shell_run.proofs.WritingLemmas.{append_nil, Appends-nil, Appends-append, Took-after, Took-kept, Took-from_Appends}
+use Rattle.shell_run.proofs.WritingLemmas.{append_nil, Appends-nil, Appends-append, Took-after, Took-from_Appends}
 
 -- taking a line
 

@@ -1,11 +1,10 @@
 -- What a sink has taken, piece by piece.
-use Rattle.std.proofs.Common.{◌≡◌, ℕ, ◌-◌, ◌≤◌, List, [], ◌∷◌, ◌++◌, length, take, drop, Option, Some, None, refl, ap, sym, ◌∙◌, append_assoc, subst, arith}
+use Rattle.std.proofs.Common.{◌≡◌, ℕ, ◌-◌, List, [], ◌∷◌, ◌++◌, length, take, drop, Option, Some, None, refl, ap, sym, ◌∙◌, append_assoc, subst, arith}
 use Rattle.std.proofs.lemmas.Grind.{common_steps}
 use Rattle.std.specs.Io.KnownBytes.{Appends}
 use Rattle.std.proofs.lemmas.List.{take-append-drop}
 use Rattle.edge_io.specs.Told.{StillTold}
 use Rattle.shell_run.specs.Progress.{Took, TookFront}
-use Rattle.shell_run.specs.Written.{IsFront}
 
 pub append_nil : (xs : List ℕ) → xs ≡ xs ++ []
 append_nil [] = refl

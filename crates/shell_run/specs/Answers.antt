@@ -7,7 +7,7 @@ use Rattle.dataset_tree.specs.Tree.{Datasets}
 use Rattle.shell_lines.specs.declared.line.Line.{Line}
 use Rattle.shell_lines.specs.declared.line.LineStop.{LineStop}
 use Rattle.shell_lines.specs.declared.line.LineStop.TheVariants as line_stops
-use Rattle.shell_run.specs.Transcript.{Answer, answer_of}
+use Rattle.shell_run.specs.Transcript.{answer_of}
 
 -- a command that changes the tree, or is refused and leaves it
 abbrev pub Creates : Result Datasets Refusal → Datasets → Datasets → Result (Unit {0}) Stop → Type 0

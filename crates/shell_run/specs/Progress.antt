@@ -8,7 +8,7 @@ use Rattle.edge_io.specs.Lines.{lines}
 use Rattle.shell_lines.specs.declared.line.Line.{Line}
 use Rattle.shell_run.specs.declared.ending.Ending.{Ending}
 use Rattle.shell_run.specs.declared.ending.Ending.TheVariants.{Done, Usage, BadLine, ReadFault, WriteFault, NoMemory}
-use Rattle.shell_run.specs.Endings.{EndsAs, closing_line}
+use Rattle.shell_run.specs.Endings.{EndsAs}
 use Rattle.shell_run.specs.Transcript.{Run, preceded, run_from, answer_of}
 use Rattle.shell_run.specs.Written.{IsFront}
 

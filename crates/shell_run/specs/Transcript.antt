@@ -1,5 +1,5 @@
 -- What the shell prints for a script: a fold over its lines, from a host without datasets.
-use Rattle.std.specs.Prelude.{◌≡◌, ℕ, ◌+◌, nat_lt, List, [], ◌∷◌, ◌++◌, length, if◌then◌else◌, Result, Ok, Err}
+use Rattle.std.specs.Prelude.{ℕ, ◌+◌, nat_lt, List, [], ◌∷◌, ◌++◌, length, if◌then◌else◌, Result, Ok, Err}
 use Rattle.std.specs.List.{flat_map}
 use Rattle.dataset_tree.specs.declared.kinds.Kind.TheVariants.{Plain}
 use Rattle.dataset_tree.specs.declared.refusal.Refusal.{Refusal}

@@ -32,10 +32,7 @@ fn main(rt: HostRuntime) -> ExitCode {
 }
 
 /// The words behind the program's name, and an empty list of failed takings.
-fn start<R: Env + AllocGlobal>(
-    rt: &R,
-    alloc: Global,
-) -> Result<(Vec<String>, Found), NoMemory>
+fn start<R: Env + AllocGlobal>(rt: &R, alloc: Global) -> Result<(Vec<String>, Found), NoMemory>
     ensures { IfOk result (λ made. made.1 ≡ []) }
 {
     let words = command_line(rt, alloc)?;

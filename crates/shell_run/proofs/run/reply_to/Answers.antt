@@ -1,7 +1,4 @@
-use Rattle.std.proofs.Common.{◌≡◌, List, ℕ, Option, Ok, subst, sym}
-use Rattle.std.specs.Io.KnownBytes.{Appends}
 use Rattle.shell_lines.specs.Grammar.{line_of}
-use Rattle.shell_run.specs.Answers.{AnswersTo}
 use Rattle.shell_run.proofs.RunLemmas.{replied_all, replied_part}
 use Rattle.shell_run.proofs.run.reply_to.Goals as goal
 

@@ -1,4 +1,3 @@
-use Rattle.std.proofs.Common.{List, ℕ}
 use Rattle.edge_io.specs.Faults.{Rose}
 use Rattle.shell_run.specs.Endings.{closing_line}
 use Rattle.shell_run.specs.Transcript.{transcript}

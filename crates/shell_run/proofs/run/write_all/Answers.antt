@@ -1,4 +1,4 @@
-use Rattle.std.proofs.Common.{◌≡◌, ◌∙◌, arith}
+use Rattle.std.proofs.Common.{◌∙◌}
 use Rattle.shell_run.proofs.WritingLemmas.{writing_more}
 use Rattle.shell_run.proofs.run.write_all.Goals as goal
 
