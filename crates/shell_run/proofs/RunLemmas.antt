@@ -1,5 +1,5 @@
 -- One line of a run, and many.
-use Rattle.std.proofs.Common.{◌≡◌, ◌⊎◌, ℕ, ◌+◌, ◌<◌, ◌≤◌, nat_lt, false, List, [], ◌∷◌, ◌++◌, length, Option, Some, None, Result, Ok, Err, IfSome, IsSomeAnd, OnOk, refl, ap, sym, ◌∙◌, subst, append_assoc, arith, inl, inr, ⊎_elim}
+use Rattle.std.proofs.Common.{◌≡◌, ◌⊎◌, ℕ, ◌+◌, ◌<◌, ◌≤◌, nat_lt, false, List, [], ◌∷◌, ◌++◌, length, drop, Option, Some, None, Result, Ok, Err, IfSome, IsSomeAnd, OnOk, refl, ap, sym, ◌∙◌, subst, append_assoc, arith, inl, inr, ⊎_elim}
 use Rattle.std.specs.Io.KnownBytes.{Appends}
 use Rattle.std.proofs.lemmas.Bool.Decides.{nat_tests}
 use Rattle.dataset_tree.specs.Tree.{Datasets}
@@ -16,7 +16,7 @@ use Rattle.shell_run.specs.Answers.{AnswersTo}
 use Rattle.shell_run.specs.Endings.{EndsAs, SinkFaults, status_of, closing_line, ClosesAs}
 use Rattle.shell_run.specs.Progress.{Goes, Ends, Taken, Took, TookFront, Closes, TakesLine, TakesNone, Replied, LineRan}
 use Rattle.shell_run.specs.Texts.{bad_line, usage_line, read_fault_line, no_memory_line}
-use Rattle.shell_run.specs.Transcript.{Run, preceded, goes_on, checked, run_from, answer_of}
+use Rattle.shell_run.specs.Transcript.{World, on_host, Run, preceded, goes_on, checked, run_within, run_from, answer_of}
 use Rattle.shell_run.specs.Written.{IsFront, IsAnswered, Wrote, last_line}
 use Rattle.shell_run.proofs.WritingLemmas.{append_nil, Appends-nil, Appends-append, Took-after, Took-from_Appends}
 
@@ -68,34 +68,34 @@ checked_line n line few short =
     let fits : nat_lt 65536 (length line) ≡ false = grind (arith, nat_tests) in
     rw (within, fits) refl
 
-one_line_goes : (n : ℕ) (o : Result Line ℕ) (rest : Datasets → Run) (old new : Datasets) (t0 t1 : Option (List ℕ)) → Replied None n o old new t0 t1
-    → Goes (goes_on n old o rest) (rest new) t0 t1
-one_line_goes n (Ok line) rest old new t0 t1 replied = record {
-  replies = (answer_of n old line).output;
+one_line_goes : (n : ℕ) (o : Result Line ℕ) (later : List (List ℕ)) (rest : World → ℕ → Run) (old new : Datasets) (t0 t1 : Option (List ℕ)) → Replied None n o old new t0 t1
+    → Goes (goes_on n (on_host old) o later rest) (rest (on_host new) 1) t0 t1
+one_line_goes n (Ok line) later rest old new t0 t1 replied = record {
+  replies = (answer_of n (on_host old) line).output;
   taken = replied.1;
-  goes_on = ap (λ t. preceded (answer_of n old line).output (rest t)) (sym replied.0);
+  goes_on = ap (λ t. preceded (answer_of n (on_host old) line).output (rest (on_host t) 1)) (sym replied.0);
 }
-one_line_goes n (Err at) rest old new t0 t1 replied = absurd replied
+one_line_goes n (Err at) later rest old new t0 t1 replied = absurd replied
 
-one_line_ends : (e : Ending) (n : ℕ) (o : Result Line ℕ) (rest : Datasets → Run) (old new : Datasets) (t0 t1 : Option (List ℕ)) → Replied (Some e) n o old new t0 t1
-    → Ends e (goes_on n old o rest) t0 t1
-one_line_ends Done n o rest old new t0 t1 replied = absurd replied
-one_line_ends Usage n o rest old new t0 t1 replied = absurd replied
-one_line_ends ReadFault n o rest old new t0 t1 replied = absurd replied
-one_line_ends WriteFault n (Ok line) rest old new t0 t1 replied = record {
+one_line_ends : (e : Ending) (n : ℕ) (o : Result Line ℕ) (later : List (List ℕ)) (rest : World → ℕ → Run) (old new : Datasets) (t0 t1 : Option (List ℕ)) → Replied (Some e) n o old new t0 t1
+    → Ends e (goes_on n (on_host old) o later rest) t0 t1
+one_line_ends Done n o later rest old new t0 t1 replied = absurd replied
+one_line_ends Usage n o later rest old new t0 t1 replied = absurd replied
+one_line_ends ReadFault n o later rest old new t0 t1 replied = absurd replied
+one_line_ends WriteFault n (Ok line) later rest old new t0 t1 replied = record {
   replies = replied.part;
   taken = replied.taken;
   ends =
-      let after : List ℕ = (rest (answer_of n old line).datasets).replies in
+      let after : List ℕ = (rest (answer_of n (on_host old) line).world 1).replies in
       (replied.front.0 ++ after, ap (λ bytes. bytes ++ after) replied.front.1 ∙ append_assoc replied.part replied.front.0 after);
 }
-one_line_ends WriteFault n (Err at) rest old new t0 t1 replied = absurd replied
-one_line_ends NoMemory n o rest old new t0 t1 replied = record { replies = []; taken = took_nothing t0 t1 replied; ends = ((goes_on n old o rest).replies, refl) }
-one_line_ends (BadLine number at) n o rest old new t0 t1 replied = record {
+one_line_ends WriteFault n (Err at) later rest old new t0 t1 replied = absurd replied
+one_line_ends NoMemory n o later rest old new t0 t1 replied = record { replies = []; taken = took_nothing t0 t1 replied; ends = ((goes_on n (on_host old) o later rest).replies, refl) }
+one_line_ends (BadLine number at) n o later rest old new t0 t1 replied = record {
   replies = [];
   taken = took_nothing t0 t1 replied.2;
   ends =
-      let P : Result Line ℕ → Type 0 = λ outcome. goes_on n old outcome rest ≡ record { status = 3; replies = []; last = bad_line number at } in
+      let P : Result Line ℕ → Type 0 = λ outcome. goes_on n (on_host old) outcome later rest ≡ record { status = 3; replies = []; last = bad_line number at } in
       subst P (sym replied.1) (ap (λ m. let run : Run = record { status = 3; replies = []; last = bad_line m at } in run) (sym replied.0));
 }
 
@@ -104,9 +104,9 @@ pub line_ran : (told left : Option (List ℕ)) (n : ℕ) (line : List ℕ) (r : 
 line_ran None left n line r old new t0 t1 few short takes replied = tt
 line_ran (Some bytes) None n line r old new t0 t1 few short takes replied = absurd takes
 line_ran (Some bytes) (Some rest) n line None old new t0 t1 few short takes replied =
-    rw (takes, checked_line n line few short) (one_line_goes n (line_of line 0) (run_from (n + 1) (lines rest)) old new t0 t1 replied)
+    rw (takes, checked_line n line few short) (one_line_goes n (line_of line 0) (lines rest) (λ w taken. run_within (length (lines rest)) (n + taken) (drop taken (line ∷ lines rest)) w) old new t0 t1 replied)
 line_ran (Some bytes) (Some rest) n line (Some e) old new t0 t1 few short takes replied =
-    rw (takes, checked_line n line few short) (one_line_ends e n (line_of line 0) (run_from (n + 1) (lines rest)) old new t0 t1 replied)
+    rw (takes, checked_line n line few short) (one_line_ends e n (line_of line 0) (lines rest) (λ w taken. run_within (length (lines rest)) (n + taken) (drop taken (line ∷ lines rest)) w) old new t0 t1 replied)
 
 -- a run that goes on
 
@@ -151,11 +151,11 @@ goes_ends e a b t0 t1 t2 p q = record {
 
 -- a run from its first line on has come to line n, with these bytes unread
 pub record Reached (first n : ℕ) (told now : Option (List ℕ)) (old new : Datasets) (t0 t1 : Option (List ℕ)) : Type 0 where
-  pub goes : IfSome told (λ bytes. IsSomeAnd now (λ rest. Goes (run_from first (lines bytes) old) (run_from n (lines rest) new) t0 t1))
+  pub goes : IfSome told (λ bytes. IsSomeAnd now (λ rest. Goes (run_from first (lines bytes) (on_host old)) (run_from n (lines rest) (on_host new)) t0 t1))
 
 pub reached_none : (first : ℕ) (told : Option (List ℕ)) (old : Datasets) (t : Option (List ℕ)) → Reached first first told told old old t t
 reached_none first None old t = record { goes = tt }
-reached_none first (Some bytes) old t = record { goes = goes_none (run_from first (lines bytes) old) t }
+reached_none first (Some bytes) old t = record { goes = goes_none (run_from first (lines bytes) (on_host old)) t }
 
 pub reached_more : (first n : ℕ) (told now left : Option (List ℕ)) (a b c : Datasets) (t0 t1 t2 : Option (List ℕ)) → Reached first n told now a b t0 t1
     → IfSome now (λ bytes. LineRan None n bytes left b c t1 t2) → Reached first (n + 1) told left a c t0 t2
@@ -163,23 +163,23 @@ reached_more first n None now left a b c t0 t1 t2 p q = record { goes = tt }
 reached_more first n (Some bytes) None left a b c t0 t1 t2 p q = absurd p.goes
 reached_more first n (Some bytes) (Some rest) None a b c t0 t1 t2 p q = absurd q
 reached_more first n (Some bytes) (Some rest) (Some more) a b c t0 t1 t2 p q = record {
-  goes = goes_more (run_from first (lines bytes) a) (run_from n (lines rest) b) (run_from (n + 1) (lines more) c) t0 t1 t2 p.goes q;
+  goes = goes_more (run_from first (lines bytes) (on_host a)) (run_from n (lines rest) (on_host b)) (run_from (n + 1) (lines more) (on_host c)) t0 t1 t2 p.goes q;
 }
 
 pub reached_end : (e : Ending) (first n : ℕ) (told now left : Option (List ℕ)) (a b c : Datasets) (t0 t1 t2 : Option (List ℕ)) → Reached first n told now a b t0 t1
-    → IfSome now (λ bytes. LineRan (Some e) n bytes left b c t1 t2) → IfSome told (λ bytes. Ends e (run_from first (lines bytes) a) t0 t2)
+    → IfSome now (λ bytes. LineRan (Some e) n bytes left b c t1 t2) → IfSome told (λ bytes. Ends e (run_from first (lines bytes) (on_host a)) t0 t2)
 reached_end e first n None now left a b c t0 t1 t2 p q = tt
 reached_end e first n (Some bytes) None left a b c t0 t1 t2 p q = absurd p.goes
 reached_end e first n (Some bytes) (Some rest) left a b c t0 t1 t2 p q =
-    goes_ends e (run_from first (lines bytes) a) (run_from n (lines rest) b) t0 t1 t2 p.goes q
+    goes_ends e (run_from first (lines bytes) (on_host a)) (run_from n (lines rest) (on_host b)) t0 t1 t2 p.goes q
 
 -- a run that ends without a reply more
 pub reached_limit : (e : Ending) (first : ℕ) (told now : Option (List ℕ)) (a b : Datasets) (t0 t1 : Option (List ℕ)) → Reached first 1048577 told now a b t0 t1
-    → IfSome now (λ bytes. (t : Datasets) → EndsAs e (run_from 1048577 (lines bytes) t) []) → IfSome told (λ bytes. Ends e (run_from first (lines bytes) a) t0 t1)
+    → IfSome now (λ bytes. (w : World) → EndsAs e (run_from 1048577 (lines bytes) w) []) → IfSome told (λ bytes. Ends e (run_from first (lines bytes) (on_host a)) t0 t1)
 reached_limit e first None now a b t0 t1 p q = tt
 reached_limit e first (Some bytes) None a b t0 t1 p q = absurd p.goes
 reached_limit e first (Some bytes) (Some rest) a b t0 t1 p q =
-    goes_ends e (run_from first (lines bytes) a) (run_from 1048577 (lines rest) b) t0 t1 t1 p.goes (ends_here e t1 (run_from 1048577 (lines rest) b) (q b))
+    goes_ends e (run_from first (lines bytes) (on_host a)) (run_from 1048577 (lines rest) (on_host b)) t0 t1 t1 p.goes (ends_here e t1 (run_from 1048577 (lines rest) (on_host b)) (q (on_host b)))
   where
     nothing_taken : (e : Ending) (t : Option (List ℕ)) → Taken e t t []
     nothing_taken WriteFault t = Took-from_Appends t t [] (Appends-nil t)
@@ -194,12 +194,12 @@ reached_limit e first (Some bytes) (Some rest) a b t0 t1 p q =
 
 -- past the last line that a script may have
 
-one_line_past : (line : List ℕ) (rest : List (List ℕ)) (bytes : List ℕ) (t : Datasets) → lines bytes ≡ line ∷ rest → EndsAs (BadLine 1048577 0) (run_from 1048577 (lines bytes) t) []
-one_line_past line rest bytes t e = rw e refl
+one_line_past : (line : List ℕ) (rest : List (List ℕ)) (bytes : List ℕ) (w : World) → lines bytes ≡ line ∷ rest → EndsAs (BadLine 1048577 0) (run_from 1048577 (lines bytes) w) []
+one_line_past line rest bytes w e = rw e refl
 
-pub long_line_past : (told : Option (List ℕ)) → IfSome told (λ bytes. 65536 < length (first_line bytes)) → IfSome told (λ bytes. (t : Datasets) → EndsAs (BadLine 1048577 0) (run_from 1048577 (lines bytes) t) [])
+pub long_line_past : (told : Option (List ℕ)) → IfSome told (λ bytes. 65536 < length (first_line bytes)) → IfSome told (λ bytes. (w : World) → EndsAs (BadLine 1048577 0) (run_from 1048577 (lines bytes) w) [])
 long_line_past None long = tt
-long_line_past (Some bytes) long = λ t. let found = too_long bytes long in one_line_past found.0 found.1 bytes t found.2
+long_line_past (Some bytes) long = λ w. let found = too_long bytes long in one_line_past found.0 found.1 bytes w found.2
 
 pub nothing_replied : (run : Run) → IsFront [] run.replies
 nothing_replied run = (run.replies, refl)

@@ -7,7 +7,7 @@ use Rattle.dataset_tree.specs.Tree.{Datasets}
 use Rattle.shell_lines.specs.declared.line.Line.{Line}
 use Rattle.shell_lines.specs.declared.line.LineStop.{LineStop}
 use Rattle.shell_lines.specs.declared.line.LineStop.TheVariants as line_stops
-use Rattle.shell_run.specs.Transcript.{answer_of}
+use Rattle.shell_run.specs.Transcript.{on_host, answer_of}
 
 -- a command that changes the tree, or is refused and leaves it
 abbrev pub Creates : Result Datasets Refusal → Datasets → Datasets → Result (Unit {0}) Stop → Type 0
@@ -17,7 +17,7 @@ Creates outcome old new (Err stops.NoMemory) = Unit {0}
 
 -- line n was carried out, and its output added
 abbrev pub CarriesOut : ℕ → Line → Datasets → Datasets → List ℕ → List ℕ → Type 0
-CarriesOut n line old new before after = (new ≡ (answer_of n old line).datasets) × (after ≡ before ++ (answer_of n old line).output)
+CarriesOut n line old new before after = (new ≡ (answer_of n (on_host old) line).world.datasets) × (after ≡ before ++ (answer_of n (on_host old) line).output)
 
 -- bytes that spell this outcome were answered
 abbrev pub AnswersTo : ℕ → Result Line ℕ → Datasets → Datasets → List ℕ → List ℕ → Result (Unit {0}) LineStop → Type 0

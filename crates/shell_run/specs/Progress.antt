@@ -9,7 +9,7 @@ use Rattle.shell_lines.specs.declared.line.Line.{Line}
 use Rattle.shell_run.specs.declared.ending.Ending.{Ending}
 use Rattle.shell_run.specs.declared.ending.Ending.TheVariants.{Done, Usage, BadLine, ReadFault, WriteFault, NoMemory}
 use Rattle.shell_run.specs.Endings.{EndsAs}
-use Rattle.shell_run.specs.Transcript.{Run, preceded, run_from, answer_of}
+use Rattle.shell_run.specs.Transcript.{Run, preceded, on_host, run_from, answer_of}
 use Rattle.shell_run.specs.Written.{IsFront}
 
 -- The run is these replies, which the sink has taken, and then the rest.
@@ -62,9 +62,9 @@ TakesNone WriteFault number bytes left = ⊥
 
 -- the bytes of line n spelled this outcome, and it was carried out and its reply taken by the sink; or the run ends there
 abbrev pub Replied : Option Ending → ℕ → Result Line ℕ → Datasets → Datasets → Option (List ℕ) → Option (List ℕ) → Type 0
-Replied None n (Ok line) old new before after = (new ≡ (answer_of n old line).datasets) × Appends before after (answer_of n old line).output
+Replied None n (Ok line) old new before after = (new ≡ (answer_of n (on_host old) line).world.datasets) × Appends before after (answer_of n (on_host old) line).output
 Replied None n (Err at) old new before after = ⊥
-Replied (Some WriteFault) n (Ok line) old new before after = TookFront (answer_of n old line).output before after
+Replied (Some WriteFault) n (Ok line) old new before after = TookFront (answer_of n (on_host old) line).output before after
 Replied (Some (BadLine number at)) n outcome old new before after = (number ≡ n) × (outcome ≡ Err at) × (after ≡ before)
 Replied (Some NoMemory) n outcome old new before after = after ≡ before
 Replied (Some ending) n outcome old new before after = ⊥
@@ -72,5 +72,5 @@ Replied (Some ending) n outcome old new before after = ⊥
 -- line n was answered and the run goes on, or it ends there
 abbrev pub LineRan : Option Ending → ℕ → List ℕ → Option (List ℕ) → Datasets → Datasets → Option (List ℕ) → Option (List ℕ) → Type 0
 LineRan None n bytes left old new before after =
-    IsSomeAnd left (λ rest. Goes (run_from n (lines bytes) old) (run_from (n + 1) (lines rest) new) before after)
-LineRan (Some ending) n bytes left old new before after = Ends ending (run_from n (lines bytes) old) before after
+    IsSomeAnd left (λ rest. Goes (run_from n (lines bytes) (on_host old)) (run_from (n + 1) (lines rest) (on_host new)) before after)
+LineRan (Some ending) n bytes left old new before after = Ends ending (run_from n (lines bytes) (on_host old)) before after

@@ -1,5 +1,5 @@
 -- What the shell prints for a script: a fold over its lines, from a host without datasets.
-use Rattle.std.specs.Prelude.{ℕ, ◌+◌, nat_lt, List, [], ◌∷◌, ◌++◌, length, if◌then◌else◌, Result, Ok, Err}
+use Rattle.std.specs.Prelude.{ℕ, zero, suc, ◌+◌, nat_lt, List, [], ◌∷◌, ◌++◌, length, drop, if◌then◌else◌, Result, Ok, Err}
 use Rattle.std.specs.List.{flat_map}
 use Rattle.dataset_tree.specs.declared.kinds.Kind.TheVariants.{Plain}
 use Rattle.dataset_tree.specs.declared.refusal.Refusal.{Refusal}
@@ -9,11 +9,19 @@ use Rattle.edge_io.specs.Lines.{lines}
 use Rattle.shell_lines.specs.declared.line.Line.{Line}
 use Rattle.shell_lines.specs.declared.line.Line.TheVariants.{Silent, Create, List as ListSets}
 use Rattle.shell_lines.specs.Grammar.{line_of}
+use Rattle.shell_run.specs.declared.found.FoundEntry.{FoundEntry}
 use Rattle.shell_run.specs.Texts.{ok_line, error_line, set_line, bad_line, usage_line}
+
+-- what a script works on: the datasets of host `a`
+pub record World : Type 0 where
+  pub datasets : Datasets
+
+abbrev pub on_host : Datasets → World
+on_host t = record { datasets = t }
 
 -- what a line leaves, and what it prints
 pub record Answer : Type 0 where
-  pub datasets : Datasets
+  pub world : World
   pub output : List ℕ
 
 -- the tree with a new plain dataset, or the first reason against it
@@ -30,14 +38,23 @@ created t text = create_named t (named text)
 
 -- the reply to a command that changes the tree, or is refused and changes nothing
 abbrev pub replied : ℕ → Datasets → Result Datasets Refusal → Answer
-replied n old (Ok new) = record { datasets = new; output = ok_line n }
-replied n old (Err why) = record { datasets = old; output = error_line n old.rows why }
+replied n old (Ok new) = record { world = on_host new; output = ok_line n }
+replied n old (Err why) = record { world = on_host old; output = error_line n old.rows why }
 
 -- line n, carried out
-abbrev pub answer_of : ℕ → Datasets → Line → Answer
-answer_of n t Silent = record { datasets = t; output = [] }
-answer_of n t (Create name) = replied n t (created t name)
-answer_of n t ListSets = record { datasets = t; output = flat_map (set_line n) t.rows ++ ok_line n }
+abbrev pub answer_of : ℕ → World → Line → Answer
+answer_of n w Silent = record { world = w; output = [] }
+answer_of n w (Create name) = replied n w.datasets (created w.datasets name)
+answer_of n w ListSets = record { world = w; output = flat_map (set_line n) w.datasets.rows ++ ok_line n }
+
+-- a line in front of later ones: what it leaves, what it prints, and how many lines it took
+pub record Turn : Type 0 where
+  pub world : World
+  pub output : List ℕ
+  pub taken : ℕ
+
+abbrev pub turn_of : ℕ → World → Line → List (List ℕ) → Turn
+turn_of n w line later = record { world = (answer_of n w line).world; output = (answer_of n w line).output; taken = 1 }
 
 -- A script has at most 1048576 lines, each of at most 65536 bytes that spell a line of the language.
 abbrev pub checked : ℕ → List ℕ → Result Line ℕ
@@ -52,17 +69,21 @@ pub record Run : Type 0 where
 abbrev pub preceded : List ℕ → Run → Run
 preceded output run = record { status = run.status; replies = output ++ run.replies; last = run.last }
 
--- a line is answered, and then the rest; or it is bad, and nothing after it is done
-abbrev pub goes_on : ℕ → Datasets → Result Line ℕ → (Datasets → Run) → Run
-goes_on n t (Err at) rest = record { status = 3; replies = []; last = bad_line n at }
-goes_on n t (Ok line) rest = preceded (answer_of n t line).output (rest (answer_of n t line).datasets)
+-- a line has its turn, and then those that it left; or it is bad, and nothing after it is done
+abbrev pub goes_on : ℕ → World → Result Line ℕ → List (List ℕ) → (World → ℕ → Run) → Run
+goes_on n w (Err at) later rest = record { status = 3; replies = []; last = bad_line n at }
+goes_on n w (Ok line) later rest = preceded (turn_of n w line later).output (rest (turn_of n w line later).world (turn_of n w line later).taken)
 
--- the lines from number n on
-abbrev pub run_from : ℕ → List (List ℕ) → Datasets → Run
-run_from n [] t = record { status = 0; replies = []; last = [] }
-run_from n (bytes ∷ rest) t = goes_on n t (checked n bytes) (run_from (n + 1) rest)
+-- the lines from number n on, of which there are at most so many
+abbrev pub run_within : ℕ → ℕ → List (List ℕ) → World → Run
+run_within bound n [] w = record { status = 0; replies = []; last = [] }
+run_within zero n (bytes ∷ later) w = record { status = 0; replies = []; last = [] }
+run_within (suc bound) n (bytes ∷ later) w = goes_on n w (checked n bytes) later (λ v taken. run_within bound (n + taken) (drop taken (bytes ∷ later)) v)
 
--- No word is an option yet, so every one is a faulty command line.
-abbrev pub transcript : {W : Type 0} → List W → List ℕ → Run
-transcript [] script = run_from 1 (lines script) no_datasets
-transcript (word ∷ words) script = record { status = 2; replies = []; last = usage_line }
+abbrev pub run_from : ℕ → List (List ℕ) → World → Run
+run_from n ls w = run_within (length ls) n ls w
+
+-- The whole run under these words, where these takings failed. No word is an option yet, so every one is a faulty command line.
+abbrev pub transcript : {W : Type 0} → List W → List ℕ → List FoundEntry → Run
+transcript [] script found = run_from 1 (lines script) (on_host no_datasets)
+transcript (word ∷ words) script found = record { status = 2; replies = []; last = usage_line }

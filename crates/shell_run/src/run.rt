@@ -2,14 +2,14 @@
 ghost use Rattle.std.specs.Prelude.{◌≡◌, ◌≢◌, ◌≤◌, ◌+◌, ◌⊎◌, [], List, ℕ, IfOk, IfErr, IfSome, OnOk, OnErr, Some, None, length};
 ghost use Rattle.std.specs.Io.KnownBytes.{Appends};
 ghost use Rattle.std.specs.Result.{result_err};
-ghost use Rattle.dataset_tree.specs.Tree.{Datasets, no_datasets};
+ghost use Rattle.dataset_tree.specs.Tree.{no_datasets};
 ghost use Rattle.edge_io.specs.Faults.{HasCause, Rose};
 ghost use Rattle.edge_io.specs.Lines.{lines};
 ghost use Rattle.edge_io.specs.Told.{unread};
 ghost use Rattle.shell_lines.specs.Grammar.{line_of};
 ghost use Rattle.shell_run.specs.Endings.{EndsAs, closing_line, SourceFaults, SinkFaults, ClosesAs};
 ghost use Rattle.shell_run.specs.Progress.{Ends, Closes, LineRan, TakesLine, TakesNone, TookFront, Replied};
-ghost use Rattle.shell_run.specs.Transcript.{run_from, transcript};
+ghost use Rattle.shell_run.specs.Transcript.{World, on_host, run_from, transcript};
 ghost use Rattle.shell_run.specs.Written.{IsAnswered, Wrote};
 
 use crate::answer::answer;
@@ -55,8 +55,8 @@ pub fn run_alone<S: Source, O: Sink>(
 
     // Where the script and the output are told, what was written is the transcript.
     ensures transcript { IfSome (S.left script.old) (λ bytes. IfSome (O.taken out.old) (λ before. IfSome (O.taken out.new) (λ after.
-        Wrote (transcript words.now bytes) result (Rose (O.faults out.old) (O.faults out.new)) before after))) }
-    ensures answered { IfSome (S.left script.old) (λ bytes. IsAnswered result → (transcript words.now bytes).status ≡ result) }
+        Wrote (transcript words.now bytes found.new) result (Rose (O.faults out.old) (O.faults out.new)) before after))) }
+    ensures answered { IfSome (S.left script.old) (λ bytes. IsAnswered result → (transcript words.now bytes found.new).status ≡ result) }
     ensures read_to_its_end { result ≡ 0 → IfSome (S.left script.old) (λ bytes. S.left script.new ≡ Some []) }
 
     // Every other status has its cause.
@@ -84,7 +84,7 @@ fn run_words<S: Source, O: Sink>(
     out: &mut O,
 ) -> Ending
     ensures told { IfSome (S.left script.old) (λ bytes.
-        Ends result (transcript words.now bytes) (O.taken out.old) (O.taken out.new)) }
+        Ends result (transcript words.now bytes []) (O.taken out.old) (O.taken out.new)) }
     ensures end { result ≡ Ending.Done → IfSome (S.left script.old) (λ bytes. S.left script.new ≡ Some []) }
     ensures usage { words.now ≢ [] → result ≡ Ending.Usage }
     ensures usage_only { result ≡ Ending.Usage → words.now ≢ [] }
@@ -100,7 +100,7 @@ fn run_words<S: Source, O: Sink>(
 /// Runs a script, and says how it ended.
 fn run_script<S: Source, O: Sink>(alloc: Global, script: &mut S, out: &mut O) -> Ending
     ensures told { IfSome (S.left script.old) (λ bytes.
-        Ends result (run_from 1 (lines bytes) no_datasets) (O.taken out.old) (O.taken out.new)) }
+        Ends result (run_from 1 (lines bytes) (on_host no_datasets)) (O.taken out.old) (O.taken out.new)) }
     ensures end { result ≡ Ending.Done → IfSome (S.left script.old) (λ bytes. S.left script.new ≡ Some []) }
     ensures not_usage { result ≢ Ending.Usage }
     ensures source { SourceFaults (Some result) (S.faults script.old) (S.faults script.new) }
@@ -134,7 +134,7 @@ pub(crate) fn run_lines<S: Source, O: Sink>(
 ) -> Ending
     requires { first ≤ MAX_LINES }
     ensures told { IfSome (unread reader.old (S.left script.old)) (λ bytes.
-        Ends result (run_from first (lines bytes) tree.old) (O.taken out.old) (O.taken out.new)) }
+        Ends result (run_from first (lines bytes) (on_host tree.old)) (O.taken out.old) (O.taken out.new)) }
     ensures end { result ≡ Ending.Done → IfSome (unread reader.old (S.left script.old)) (λ bytes. unread reader.new (S.left script.new) ≡ Some []) }
     ensures not_usage { result ≢ Ending.Usage }
     ensures source { SourceFaults (Some result) (S.faults script.old) (S.faults script.new) }
@@ -151,8 +151,8 @@ pub(crate) fn run_lines<S: Source, O: Sink>(
 
 /// How a run ends that has answered as many lines as a script may have.
 fn end_at_limit<S: Source>(reader: &mut LineReader, script: &mut S) -> Ending
-    ensures told { IfSome (unread reader.old (S.left script.old)) (λ bytes. (t : Datasets) →
-        EndsAs result (run_from 1048577 (lines bytes) t) []) }
+    ensures told { IfSome (unread reader.old (S.left script.old)) (λ bytes. (w : World) →
+        EndsAs result (run_from 1048577 (lines bytes) w) []) }
     ensures end { result ≡ Ending.Done → IfSome (unread reader.old (S.left script.old)) (λ bytes. unread reader.new (S.left script.new) ≡ Some []) }
     ensures not_usage { (result ≢ Ending.Usage) × (result ≢ Ending.WriteFault) }
     ensures source { SourceFaults (Some result) (S.faults script.old) (S.faults script.new) }

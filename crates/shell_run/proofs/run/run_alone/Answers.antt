@@ -7,7 +7,7 @@ use Rattle.shell_run.proofs.run.run_alone.Goals as goal
 pub returns-clause-transcript : goal.returns-clause-transcript
 returns-clause-transcript g c =
     let ran = c.run_words-ending in
-    rw c.status.ensures (wrote (g.S.Source.left c.args.script.now) (λ bytes. transcript c.args.words.now bytes) ran.result c.close.result
+    rw c.status.ensures (wrote (g.S.Source.left c.args.script.now) (λ bytes. transcript c.args.words.now bytes c.args.found.now) ran.result c.close.result
     (Rose (g.O.Sink.faults c.args.out.now) (g.O.Sink.faults c.close.new.out))
     (g.O.Sink.taken c.args.out.now) (g.O.Sink.taken ran.new.out) (g.O.Sink.taken c.close.new.out)
     ran.ensures.told c.close.ensures.ending
