@@ -1,0 +1,5 @@
+pub mod Blocks
+pub mod Hashing
+pub mod Counting
+pub mod Opening
+pub mod Product

@@ -1,0 +1,8 @@
+use Rattle.std.proofs.Common.{◌≡◌, ◌*◌, ◌++◌, drop}
+use Rattle.gcm_seal.specs.Gcm.{counter_block, gctr_blocks}
+use Rattle.gcm_seal.proofs.gctr.apply.Given as goal
+
+abbrev pub invariant-loop-i : goal.invariant-loop-i
+invariant-loop-i g l =
+    (l.counter_block ≡ counter_block l.initial.counter_block l.i)
+    × (l.text ≡ gctr_blocks l.cipher l.initial.counter_block l.initial.text l.i ++ drop (16 * l.i) l.initial.text)

@@ -1,0 +1,71 @@
+use super::*;
+
+const AAD: &[u8; 29] = b"one whole block and some more";
+
+const TEXT: &[u8; 38] = b"two whole blocks and a part of a third";
+
+// From another implementation, under the key of the bytes 0 to 23 and the initialization vector of
+// the bytes 100 to 111.
+const SEALED: &[u8; 38] =
+    b"\x9d\x1f\xd4\x5c\x25\xc7\x61\x54\xb6\xf1\x80\x6d\x95\x91\xf0\xcd\xfd\x38\x30\xae\xda\xe8\x51\x9f\xe0\x31\x3c\xea\xd9\x08\xb8\x21\x7a\x20\x6f\xf6\x2a\x71";
+
+#[test]
+fn zero_keys(rt: HostRuntime) {
+    let tag = seal(&[0; 16], &[0; 12], &[], &mut []);
+    assert_eq!(rt;
+        u128::from_be_bytes(tag),
+        0x58e2_fcce_fa7e_3061_367f_1d57_a4e7_455a
+    );
+
+    let mut text = [0; 16];
+    let tag = seal(&[0; 16], &[0; 12], &[], &mut text);
+    assert_eq!(rt;
+        u128::from_be_bytes(text),
+        0x0388_dace_60b6_a392_f328_c2b9_71b2_fe78
+    );
+    assert_eq!(rt;
+        u128::from_be_bytes(tag),
+        0xab6e_47d4_2cec_13bd_f53a_67b2_1257_bddf
+    );
+
+    let mut text = [0; 16];
+    let tag = seal(&[0; 32], &[0; 12], &[], &mut text);
+    assert_eq!(rt;
+        u128::from_be_bytes(text),
+        0xcea7_403d_4d60_6b6e_074e_c5d3_baf3_9d18
+    );
+    assert_eq!(rt;
+        u128::from_be_bytes(tag),
+        0xd0d1_c8a7_9999_6bf0_265b_98b5_d48a_b919
+    );
+}
+
+#[test]
+fn partial_blocks_under_192_bits(rt: HostRuntime) {
+    let key = [
+        0, 1, 2, 3, 4, 5, 6, 7, 8, 9, 10, 11, 12, 13, 14, 15, 16, 17, 18, 19, 20, 21, 22, 23,
+    ];
+    let iv = [100, 101, 102, 103, 104, 105, 106, 107, 108, 109, 110, 111];
+    let mut text = *TEXT;
+    let mut tag = seal(&key, &iv, AAD, &mut text);
+    assert_eq!(rt; text, *SEALED);
+    assert_eq!(rt;
+        u128::from_be_bytes(tag),
+        0x2a06_25ab_12ca_746b_c1ea_45c1_80a2_e354
+    );
+
+    assert_eq!(rt; unseal(&key, &iv, AAD, &mut text, &tag), Ok(()));
+    assert_eq!(rt; text, *TEXT);
+
+    tag[15] ^= 1;
+    assert_eq!(rt; unseal(&key, &iv, AAD, &mut text, &tag), Err(BadTag));
+}
+
+#[test]
+fn bad_tag_prints(rt: HostRuntime) -> Result<(), std::test::Fail> {
+    assert_eq!(rt;
+        format!(in rt.alloc(); "{BadTag}")?.as_str(),
+        "the tag differs"
+    );
+    Ok(())
+}
