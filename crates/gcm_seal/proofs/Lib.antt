@@ -3,3 +3,4 @@ pub mod Hashing
 pub mod Counting
 pub mod Opening
 pub mod Product
+pub mod Bytes
