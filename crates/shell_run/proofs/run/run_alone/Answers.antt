@@ -11,11 +11,11 @@ pub returns-clause-transcript : goal.returns-clause-transcript
 returns-clause-transcript g c =
     let ran = c.run_words-ending in
     let Told : List FoundEntry → Type 0 = λ found. IfSome (g.S.Source.left c.args.script.now) (λ bytes.
-      Ends ran.result (transcript c.args.words.now bytes found) (g.O.Sink.taken c.args.out.now) (g.O.Sink.taken ran.new.out)) in
+    Ends ran.result (transcript c.args.words.now bytes found) (g.O.Sink.taken c.args.out.now) (g.O.Sink.taken ran.new.out)) in
     rw c.status.ensures (wrote (g.S.Source.left c.args.script.now) (λ bytes. transcript c.args.words.now bytes c.args.found.now) ran.result c.close.result
-      (Rose (g.O.Sink.faults c.args.out.now) (g.O.Sink.faults c.close.new.out))
-      (g.O.Sink.taken c.args.out.now) (g.O.Sink.taken ran.new.out) (g.O.Sink.taken c.close.new.out)
-      (subst Told (sym c.requires) ran.ensures.told) c.close.ensures.ending
-      (closes_since ran.result (closing_line c.close.result) (g.O.Sink.faults c.args.out.now) (g.O.Sink.faults ran.new.out) (g.O.Sink.faults c.close.new.out)
-        (g.O.Sink.taken ran.new.out) (g.O.Sink.taken c.close.new.out) ran.ensures.sink c.close.ensures.told)
-      (λ silent. (c.close.ensures.silent silent).1))
+    (Rose (g.O.Sink.faults c.args.out.now) (g.O.Sink.faults c.close.new.out))
+    (g.O.Sink.taken c.args.out.now) (g.O.Sink.taken ran.new.out) (g.O.Sink.taken c.close.new.out)
+    (subst Told (sym c.requires) ran.ensures.told) c.close.ensures.ending
+    (closes_since ran.result (closing_line c.close.result) (g.O.Sink.faults c.args.out.now) (g.O.Sink.faults ran.new.out) (g.O.Sink.faults c.close.new.out)
+    (g.O.Sink.taken ran.new.out) (g.O.Sink.taken c.close.new.out) ran.ensures.sink c.close.ensures.told)
+    (λ silent. (c.close.ensures.silent silent).1))
