@@ -1,9 +1,11 @@
 //! The lines of the shell's scripts.
 #![tactic(auto)]
 
+mod laws;
 mod line;
 mod parse;
 mod words;
 
+pub use laws::bad_at_the_first_wrong_word;
 pub use line::{Line, LineStop, Word};
 pub use parse::parse_line;
