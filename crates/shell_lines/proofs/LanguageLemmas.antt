@@ -1,5 +1,5 @@
 -- What `line_of` gives, by the language's table.
-use Rattle.std.proofs.Common.{◌≡◌, ◌≢◌, eqb, ltb, not, Some, None, get_or, ℕ, ◌<◌, ◌≤◌, ◌⊎◌, inl, inr, Bool, true, false, cond, List, [], ◌∷◌, ◌++◌, length, Result, Ok, Err, refl, ap, sym, ◌∙◌, arith, subst}
+use Rattle.std.proofs.Common.{◌≡◌, ◌≢◌, eqb, ltb, not, Some, None, get_or, ℕ, ◌<◌, inl, inr, true, false, List, [], ◌∷◌, ◌++◌, length, Result, Ok, Err, refl, ap, sym, ◌∙◌, arith, subst}
 use Rattle.std.specs.Str.{bytes_eq}
 use Rattle.std.proofs.lemmas.Slice.Eq.{bytes_eq-Decides}
 use Rattle.std.specs.List.{position_or_len}
@@ -10,14 +10,14 @@ use Rattle.shell_lines.specs.declared.line.Line.{Line}
 use Rattle.shell_lines.specs.declared.line.Line.TheVariants.{Silent, Create, List as ListSets}
 use Rattle.shell_lines.specs.Words.{WordAt, words_of}
 use Rattle.shell_lines.specs.Grammar.{command_of, create_of, end_of, line_of, placed_of, is_comment, is_printable, first_unprintable}
-use Rattle.shell_lines.specs.Language.{IsLine, CanBegin, IsWrongWord, LacksWord, IsFirstWrong, IsPrintable, IsFirstUnprintable, IsComment, IsPlain, texts}
+use Rattle.shell_lines.specs.Language.{IsLine, CanBegin, IsFirstWrong, IsPrintable, IsFirstUnprintable, IsComment, IsPlain, texts}
 
 -- a word is a text or it isn't, and the test says which
 by_text : {P : Type 0} (word text : List ℕ) → (bytes_eq word text ≡ true → word ≡ text → P) → (bytes_eq word text ≡ false → word ≢ text → P) → P
 by_text {P} word text same other =
     elim (bytes_eq word text) as (λ v. bytes_eq word text ≡ v → P) [
-      true ↦ λ e. same e ((bytes_eq-Decides word text).0 e)
-    | false ↦ λ e. other e (λ h. let yes : bytes_eq word text ≡ true = (bytes_eq-Decides word text).1 h in cc)
+      | true ↦ λ e. same e ((bytes_eq-Decides word text).0 e)
+      | false ↦ λ e. other e (λ h. let yes : bytes_eq word text ≡ true = (bytes_eq-Decides word text).1 h in cc)
     ] refl
 
 list_is_no_create : codes "list" ≢ codes "create"
@@ -73,8 +73,8 @@ after_create : (command : WordAt) (words : List WordAt) (end : ℕ) → command.
 after_create command [] end same = inr (record { begin = rw same begins_create; no_line = rw same create_alone; offset = refl })
 after_create command (name ∷ words) end same =
     by_text name.text (codes "-o")
-      (λ e option. rw e (wrong_word (command ∷ []) name words end (rw same begins_create) (rw (same, option) option_name)))
-      (λ e other. rw e (behind_create command name words end same other))
+    (λ e option. rw e (wrong_word (command ∷ []) name words end (rw same begins_create) (rw (same, option) option_name)))
+    (λ e other. rw e (behind_create command name words end same other))
 
 after_list : (command : WordAt) (words : List WordAt) (end : ℕ) → command.text ≡ codes "list" → Says (command ∷ words) end (end_of ListSets words)
 after_list command [] end same = ap (λ text. text ∷ []) same
@@ -84,10 +84,10 @@ says : (words : List WordAt) (end : ℕ) → Says words end (command_of end word
 says [] end = refl
 says (command ∷ words) end =
     by_text command.text (codes "create")
-      (λ e same. rw e (after_create command words end same))
-      (λ e no_create. rw e (by_text command.text (codes "list")
-        (λ f same. rw f (after_list command words end same))
-        (λ f no_list. rw f (wrong_word [] command words end begins_nothing (no_command command.text no_create no_list)))))
+    (λ e same. rw e (after_create command words end same))
+    (λ e no_create. rw e (by_text command.text (codes "list")
+    (λ f same. rw f (after_list command words end same))
+    (λ f no_list. rw f (wrong_word [] command words end begins_nothing (no_command command.text no_create no_list)))))
 
 other_text : (word text : List ℕ) → word ≢ text → bytes_eq word text ≡ false
 other_text word text apart = by_text word text (λ e same. absurd (apart same)) (λ e other. e)
@@ -116,36 +116,36 @@ printable_passes byte h = grind (arith, nat_tests)
 unprintable_fails : (byte : ℕ) → ¬ IsPrintable byte → is_printable byte ≡ false
 unprintable_fails byte h =
     elim (leb_tells 32 byte) [
-      inl low ↦ elim (leb_tells byte 126) [ inl high ↦ absurd (h (low.1, high.1)) | inr above ↦ rw (low.0, above.0) refl ]
-    | inr below ↦ rw below.0 refl
+      | inl low ↦ elim (leb_tells byte 126) [ inl high ↦ absurd (h (low.1, high.1)) | inr above ↦ rw (low.0, above.0) refl ]
+      | inr below ↦ rw below.0 refl
     ]
 
 no_comment : (bytes : List ℕ) → ¬ IsComment bytes → is_comment bytes ≡ false
 no_comment [] h = refl
 no_comment (byte ∷ bytes) h =
     elim (eqb_tells byte 35) [
-      inl hash ↦ absurd (h (bytes, inl (ap (λ b. b ∷ bytes) hash.1)))
-    | inr no_hash ↦ elim (eqb_tells byte 60) [
-        inl less ↦ absurd (h (bytes, inr (ap (λ b. b ∷ bytes) less.1)))
-      | inr no_less ↦ rw (no_hash.0, no_less.0) refl
+      | inl hash ↦ absurd (h (bytes, inl (ap (λ b. b ∷ bytes) hash.1)))
+      | inr no_hash ↦ elim (eqb_tells byte 60) [
+        | inl less ↦ absurd (h (bytes, inr (ap (λ b. b ∷ bytes) less.1)))
+        | inr no_less ↦ rw (no_hash.0, no_less.0) refl
       ]
     ]
 
 all_printable : (bytes : List ℕ) → IsPlain bytes → first_unprintable bytes ≡ None
 all_printable bytes plain =
     let none : position_or_len (λ byte. not (is_printable byte)) bytes ≡ length bytes =
-      position_or_len_is (λ byte. not (is_printable byte)) bytes (length bytes) 0 (omega arith)
-        (λ k below. rw (printable_passes (get_or bytes k 0) (plain.printable k below)) refl)
-        (λ below. absurd (omega arith)) in
+    position_or_len_is (λ byte. not (is_printable byte)) bytes (length bytes) 0 (omega arith)
+    (λ k below. rw (printable_passes (get_or bytes k 0) (plain.printable k below)) refl)
+    (λ below. absurd (omega arith)) in
     let past : ltb (length bytes) (length bytes) ≡ false = grind (arith, nat_tests) in
     rw (none, past) refl
 
 one_unprintable : (bytes : List ℕ) (at : ℕ) → IsFirstUnprintable bytes at → first_unprintable bytes ≡ Some at
 one_unprintable bytes at first =
     let place : position_or_len (λ byte. not (is_printable byte)) bytes ≡ at =
-      position_or_len_is (λ byte. not (is_printable byte)) bytes at 0 (omega arith)
-        (λ k below. rw (printable_passes (get_or bytes k 0) (first.before k below)) refl)
-        (λ below. rw (unprintable_fails (get_or bytes at 0) first.here) refl) in
+    position_or_len_is (λ byte. not (is_printable byte)) bytes at 0 (omega arith)
+    (λ k below. rw (printable_passes (get_or bytes k 0) (first.before k below)) refl)
+    (λ below. rw (unprintable_fails (get_or bytes at 0) first.here) refl) in
     let inside : ltb at (length bytes) ≡ true = grind (arith, nat_tests) in
     rw (place, inside) refl
 

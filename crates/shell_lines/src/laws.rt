@@ -1,8 +1,10 @@
 // Laws of the language, above the definitions that `parse_line` is proved against.
-ghost use Rattle.std.specs.Prelude.{◌≡◌, ◌≢◌, ℕ, ◌<◌, ◌↔◌, List, [], length};
+ghost use Rattle.std.specs.Prelude.{◌≡◌, ◌≢◌, ℕ, ◌<◌, ◌↔◌, List, [], length, slice_index};
+ghost use Rattle.std.specs.List.{All};
 ghost use Rattle.shell_lines.specs.declared.line.Line.{Line};
 ghost use Rattle.shell_lines.specs.declared.line.Line.TheVariants.{Silent};
-ghost use Rattle.shell_lines.specs.Words.{words_of};
+ghost use Rattle.shell_lines.specs.Words.{words_of, WordAt};
+ghost use Rattle.shell_lines.specs.Runs.{IsRun, IsInWord, StandFrom};
 ghost use Rattle.shell_lines.specs.Grammar.{line_of};
 ghost use Rattle.shell_lines.specs.Language.{IsLine, IsFirstWrong, IsFirstUnprintable, IsComment, IsPlain, texts};
 
@@ -15,5 +17,11 @@ pub fn bad_at_the_first_wrong_word()
     ensures wrong { (bytes : List ℕ) (at : ℕ) → IsPlain bytes → line_of bytes 0 ≡ Err at → IsFirstWrong (words_of bytes) (length bytes) at }
     ensures blank { (bytes : List ℕ) (inside : ℕ) → IsPlain bytes → words_of bytes ≡ [] → line_of bytes inside ≡ Ok Silent }
     ensures inside { (bytes : List ℕ) (inside : ℕ) → IsPlain bytes → 0 < inside → words_of bytes ≢ [] → line_of bytes inside ≡ Err 0 }
-{
-}
+{}
+
+/// The law of a line's words: they are its longest runs of bytes other than spaces, each of them once, from left to right.
+pub fn words_are_the_longest_runs()
+    ensures run { (line : List ℕ) → All (IsRun line) (words_of line) }
+    ensures whole { (line : List ℕ) (at : ℕ) → at < length line → slice_index line at ≢ 0x20 → IsInWord at (words_of line) }
+    ensures order { (line : List ℕ) → StandFrom 0 (words_of line) }
+{}

@@ -6,6 +6,9 @@ mod line;
 mod parse;
 mod words;
 
-pub use laws::bad_at_the_first_wrong_word;
+pub use laws::{bad_at_the_first_wrong_word, words_are_the_longest_runs};
 pub use line::{Line, LineStop, Word};
 pub use parse::parse_line;
+
+#[cfg(test)]
+mod tests;
