@@ -1,6 +1,7 @@
 -- What `line_of` gives, by the language's table.
-use Rattle.std.proofs.Common.{◌≡◌, ◌≢◌, eqb, ltb, not, Some, None, get_or, ℕ, ◌<◌, inl, inr, true, false, List, [], ◌∷◌, ◌++◌, length, Result, Ok, Err, refl, ap, sym, ◌∙◌, arith, subst}
+use Rattle.std.proofs.Common.{◌⊎◌, ◌≡◌, ◌≢◌, eqb, ltb, not, Some, None, get_or, ℕ, ◌<◌, inl, inr, true, false, List, [], ◌∷◌, ◌++◌, length, Result, Ok, Err, refl, ap, sym, ◌∙◌, arith, subst}
 use Rattle.std.specs.Str.{bytes_eq}
+use Rattle.std.proofs.lemmas.List.{append_assoc, append-nil}
 use Rattle.std.proofs.lemmas.Slice.Eq.{bytes_eq-Decides}
 use Rattle.std.specs.List.{position_or_len}
 use Rattle.std.proofs.lemmas.List.Sums.{position_or_len_is}
@@ -10,7 +11,7 @@ use Rattle.shell_lines.specs.declared.line.Line.{Line}
 use Rattle.shell_lines.specs.declared.line.Line.TheVariants.{Silent, Create, List as ListSets}
 use Rattle.shell_lines.specs.Words.{WordAt, words_of}
 use Rattle.shell_lines.specs.Grammar.{command_of, create_of, end_of, line_of, placed_of, is_comment, is_printable, first_unprintable}
-use Rattle.shell_lines.specs.Language.{IsLine, CanBegin, IsFirstWrong, IsPrintable, IsFirstUnprintable, IsComment, IsPlain, texts}
+use Rattle.shell_lines.specs.Language.{IsLine, CanBegin, IsWrongWord, IsFirstWrong, IsPrintable, IsFirstUnprintable, IsComment, IsPlain, texts}
 
 -- a word is a text or it isn't, and the test says which
 by_text : {P : Type 0} (word text : List ℕ) → (bytes_eq word text ≡ true → word ≡ text → P) → (bytes_eq word text ≡ false → word ≢ text → P) → P
@@ -108,6 +109,59 @@ spelled [] ListSets end h = cc
 spelled (command ∷ []) ListSets end h = (let list : command.text ≡ codes "list" = cc in rw list refl)
 spelled (command ∷ word ∷ words) ListSets end h = cc
 
+-- What begins a line still does with fewer words.
+
+shorter : (words more : List (List ℕ)) → CanBegin (words ++ more) → CanBegin words
+shorter words more (rest, line, h) = (more ++ rest, line, subst (λ all. IsLine all line) (append_assoc words more rest) h)
+
+up_to : (before : List WordAt) (word : WordAt) (behind : List WordAt) → texts (before ++ (word ∷ behind)) ≡ (texts before ++ (word.text ∷ [])) ++ texts behind
+up_to [] word behind = refl
+up_to (first ∷ before) word behind = ap (λ rest. first.text ∷ rest) (up_to before word behind)
+
+begins_up_to : (before : List WordAt) (word : WordAt) (behind : List WordAt) → CanBegin (texts (before ++ (word ∷ behind))) → CanBegin (texts before ++ (word.text ∷ []))
+begins_up_to before word behind begin = shorter (texts before ++ (word.text ∷ [])) (texts behind) (subst CanBegin (up_to before word behind) begin)
+
+past_wrong : (words : List WordAt) (at : ℕ) → IsWrongWord words at → ¬ CanBegin (texts words)
+past_wrong words at w begin = w.wrong (begins_up_to w.before w.word w.behind (subst (λ all. CanBegin (texts all)) w.stand begin))
+
+whole : (words : List WordAt) (line : Line) → IsLine (texts words) line → CanBegin (texts words)
+whole words line h = ([], line, subst (λ all. IsLine all line) (sym (append-nil (texts words))) h)
+
+-- two words of one list are one, or either stands in front of the other
+places : (a : List WordAt) (x : WordAt) (xs b : List WordAt) (y : WordAt) (ys : List WordAt) → a ++ (x ∷ xs) ≡ b ++ (y ∷ ys)
+    → (x ≡ y) ⊎ (((rest : List WordAt) × (b ≡ a ++ (x ∷ rest))) ⊎ ((rest : List WordAt) × (a ≡ b ++ (y ∷ rest))))
+places [] x xs [] y ys e = inl (cc)
+places [] x xs (v ∷ b) y ys e = inr (inl (b, let same : v ≡ x = cc in ap (λ word. word ∷ b) same))
+places (u ∷ a) x xs [] y ys e = inr (inr (a, let same : u ≡ y = cc in ap (λ word. word ∷ a) same))
+places (u ∷ a) x xs (v ∷ b) y ys e =
+    let same : u ≡ v = cc in
+    let rest : a ++ (x ∷ xs) ≡ b ++ (y ∷ ys) = cc in
+    elim (places a x xs b y ys rest) [
+      | inl one ↦ inl one
+      | inr apart ↦ elim apart [
+        | inl after ↦ inr (inl (after.0, let more : b ≡ a ++ (x ∷ after.0) = after.1 in cc))
+        | inr before ↦ inr (inr (before.0, let more : a ≡ b ++ (y ∷ before.0) = before.1 in cc))
+      ]
+    ]
+
+one_place : (words : List WordAt) (at other : ℕ) → IsWrongWord words at → IsWrongWord words other → at ≡ other
+one_place words at other w v =
+    elim (places w.before w.word w.behind v.before v.word v.behind (sym w.stand ∙ v.stand)) [
+      | inl same ↦ w.offset ∙ ap (λ (word : WordAt). word.at) same ∙ sym v.offset
+      | inr apart ↦ elim apart [
+        | inl after ↦ absurd (w.wrong (begins_up_to w.before w.word after.0 (subst (λ all. CanBegin (texts all)) after.1 v.begin)))
+        | inr before ↦ absurd (v.wrong (begins_up_to v.before v.word before.0 (subst (λ all. CanBegin (texts all)) before.1 w.begin)))
+      ]
+    ]
+
+agrees : (words : List WordAt) (end at : ℕ) (outcome : Result Line ℕ) → IsFirstWrong words end at → Says words end outcome → outcome ≡ Err at
+agrees words end at (Ok line) (inl w) h = absurd (past_wrong words at w (whole words line h))
+agrees words end at (Ok line) (inr l) h = absurd (l.no_line line h)
+agrees words end at (Err other) (inl w) (inl v) = ap Err (one_place words other at v w)
+agrees words end at (Err other) (inl w) (inr l) = absurd (past_wrong words at w l.begin)
+agrees words end at (Err other) (inr l) (inl v) = absurd (past_wrong words other v l.begin)
+agrees words end at (Err other) (inr l) (inr m) = ap Err (m.offset ∙ sym l.offset)
+
 -- Bytes
 
 printable_passes : (byte : ℕ) → IsPrintable byte → is_printable byte ≡ true
@@ -183,3 +237,6 @@ nothing_stands inside end (word ∷ words) some any = let in_section : eqb insid
 
 pub inside_section : (bytes : List ℕ) (inside : ℕ) → IsPlain bytes → 0 < inside → words_of bytes ≢ [] → line_of bytes inside ≡ Err 0
 inside_section bytes inside plain some words = by_words bytes inside plain ∙ nothing_stands inside (length bytes) (words_of bytes) some words
+
+pub bad_at_first_wrong : (bytes : List ℕ) (at : ℕ) → IsPlain bytes → IsFirstWrong (words_of bytes) (length bytes) at → line_of bytes 0 ≡ Err at
+bad_at_first_wrong bytes at plain wrong = by_command bytes plain ∙ agrees (words_of bytes) (length bytes) at (command_of (length bytes) (words_of bytes)) wrong (says (words_of bytes) (length bytes))

@@ -3,7 +3,7 @@ ghost use Rattle.std.specs.Prelude.{◌≡◌, ◌≢◌, ℕ, ◌<◌, ◌↔�
 ghost use Rattle.std.specs.List.{All};
 ghost use Rattle.shell_lines.specs.declared.line.Line.{Line};
 ghost use Rattle.shell_lines.specs.declared.line.Line.TheVariants.{Silent};
-ghost use Rattle.shell_lines.specs.Words.{words_of, WordAt};
+ghost use Rattle.shell_lines.specs.Words.{words_of};
 ghost use Rattle.shell_lines.specs.Runs.{IsRun, IsInWord, StandFrom};
 ghost use Rattle.shell_lines.specs.Grammar.{line_of};
 ghost use Rattle.shell_lines.specs.Language.{IsLine, IsFirstWrong, IsFirstUnprintable, IsComment, IsPlain, texts};
@@ -14,7 +14,7 @@ pub fn bad_at_the_first_wrong_word()
     ensures comment { (bytes : List ℕ) (inside : ℕ) → IsComment bytes → line_of bytes inside ≡ Ok Silent }
     ensures unprintable { (bytes : List ℕ) (inside at : ℕ) → ¬ IsComment bytes → IsFirstUnprintable bytes at → line_of bytes inside ≡ Err at }
     ensures line { (bytes : List ℕ) (line : Line) → IsPlain bytes → (line_of bytes 0 ≡ Ok line ↔ IsLine (texts (words_of bytes)) line) }
-    ensures wrong { (bytes : List ℕ) (at : ℕ) → IsPlain bytes → line_of bytes 0 ≡ Err at → IsFirstWrong (words_of bytes) (length bytes) at }
+    ensures wrong { (bytes : List ℕ) (at : ℕ) → IsPlain bytes → (line_of bytes 0 ≡ Err at ↔ IsFirstWrong (words_of bytes) (length bytes) at) }
     ensures blank { (bytes : List ℕ) (inside : ℕ) → IsPlain bytes → words_of bytes ≡ [] → line_of bytes inside ≡ Ok Silent }
     ensures inside { (bytes : List ℕ) (inside : ℕ) → IsPlain bytes → 0 < inside → words_of bytes ≢ [] → line_of bytes inside ≡ Err 0 }
 {}
