@@ -1,1 +1,3 @@
+pub mod LanguageLemmas
+pub mod RunLemmas
 pub mod WordLemmas

@@ -1,9 +1,9 @@
 -- The first of the words that stand from an offset on.
-use Rattle.std.proofs.Common.{◌≡◌, ℕ, suc, ◌+◌, ◌-◌, ◌<◌, ◌≤◌, Bool, true, false, not, cond, List, [], ◌∷◌, ◌++◌, length, take, drop, refl, ap, sym, ◌∙◌, arith, subst}
+use Rattle.std.proofs.Common.{◌≡◌, ℕ, suc, ◌+◌, ◌-◌, ◌<◌, Bool, true, false, not, List, [], ◌∷◌, length, take, drop, refl, ap, sym, ◌∙◌, arith}
 use Rattle.std.specs.List.{prefix_len}
 use Rattle.std.proofs.lemmas.List.{drop-drop}
 use Rattle.std.proofs.lemmas.Grind.{common_steps}
-use Rattle.shell_lines.specs.Words.{WordAt, is_space, begins_word, onto_word, words_from}
+use Rattle.shell_lines.specs.Words.{is_space, onto_word, words_from}
 
 abbrev pub in_word : ℕ → Bool
 in_word byte = not (is_space byte)
@@ -26,28 +26,28 @@ words_past_gap : (at n : ℕ) (bytes : List ℕ) → n ≡ prefix_len is_space b
 words_past_gap at n [] e = let none : n ≡ 0 = e in rw none refl
 words_past_gap at n (b ∷ bs) e =
     by_space b
-      (λ space.
-        let m : ℕ = prefix_len is_space bs in
-        let more : n ≡ suc m = e ∙ prefix_on is_space b bs space in
-        let first : words_from at (b ∷ bs) ≡ words_from (at + 1) bs = rw space refl in
-        let place : at + 1 + m ≡ at + suc m = omega arith in
-        rw more (first ∙ words_past_gap (at + 1) m bs refl ∙ words_at (at + 1 + m) (at + suc m) (drop m bs) (drop m bs) place refl))
-      (λ other.
-        let none : n ≡ 0 = e ∙ prefix_off is_space b bs other in
-        let place : at ≡ at + 0 = omega arith in
-        rw none (words_at at (at + 0) (b ∷ bs) (b ∷ bs) place refl))
+    (λ space.
+    let m : ℕ = prefix_len is_space bs in
+    let more : n ≡ suc m = e ∙ prefix_on is_space b bs space in
+    let first : words_from at (b ∷ bs) ≡ words_from (at + 1) bs = rw space refl in
+    let place : at + 1 + m ≡ at + suc m = omega arith in
+    rw more (first ∙ words_past_gap (at + 1) m bs refl ∙ words_at (at + 1 + m) (at + suc m) (drop m bs) (drop m bs) place refl))
+    (λ other.
+    let none : n ≡ 0 = e ∙ prefix_off is_space b bs other in
+    let place : at ≡ at + 0 = omega arith in
+    rw none (words_at at (at + 0) (b ∷ bs) (b ∷ bs) place refl))
 
 -- no space stands behind the spaces in front
 after_gap : (bytes : List ℕ) (n : ℕ) → n ≡ prefix_len is_space bytes → prefix_len is_space (drop n bytes) ≡ 0
 after_gap [] n e = let none : n ≡ 0 = e in rw none refl
 after_gap (b ∷ bs) n e =
     by_space b
-      (λ space.
-        let more : n ≡ suc (prefix_len is_space bs) = e ∙ prefix_on is_space b bs space in
-        rw more (after_gap bs (prefix_len is_space bs) refl))
-      (λ other.
-        let none : n ≡ 0 = e ∙ prefix_off is_space b bs other in
-        rw none (prefix_off is_space b bs other))
+    (λ space.
+    let more : n ≡ suc (prefix_len is_space bs) = e ∙ prefix_on is_space b bs space in
+    rw more (after_gap bs (prefix_len is_space bs) refl))
+    (λ other.
+    let none : n ≡ 0 = e ∙ prefix_off is_space b bs other in
+    rw none (prefix_off is_space b bs other))
 
 -- a word goes on up to the next space
 word_first : (at b : ℕ) (bs : List ℕ) (n : ℕ) → is_space b ≡ false → n ≡ prefix_len in_word bs
@@ -55,40 +55,40 @@ word_first : (at b : ℕ) (bs : List ℕ) (n : ℕ) → is_space b ≡ false →
 word_first at b [] n other e = let none : n ≡ 0 = e in rw none (rw other refl)
 word_first at b (c ∷ cs) n other e =
     by_space c
-      (λ space.
-        let out : in_word c ≡ false = rw space refl in
-        let none : n ≡ 0 = e ∙ prefix_off in_word c cs out in
-        let alone : words_from at (b ∷ c ∷ cs) ≡ record { at = at; text = b ∷ [] } ∷ words_from (at + 1) (c ∷ cs) = simp (other, space) in
-        let place : at + suc 0 ≡ at + 1 = omega arith in
-        rw (none, place) alone)
-      (λ goes_on.
-        let inside : in_word c ≡ true = rw goes_on refl in
-        let m : ℕ = prefix_len in_word cs in
-        let more : n ≡ suc m = e ∙ prefix_on in_word c cs inside in
-        let onto : words_from at (b ∷ c ∷ cs) ≡ onto_word at b (words_from (at + 1) (c ∷ cs)) = simp (other, goes_on) in
-        let place : at + 1 + suc m ≡ at + suc (suc m) = omega arith in
-        rw (more, ← place) (onto ∙ ap (onto_word at b) (word_first (at + 1) c cs m goes_on refl)))
+    (λ space.
+    let out : in_word c ≡ false = rw space refl in
+    let none : n ≡ 0 = e ∙ prefix_off in_word c cs out in
+    let alone : words_from at (b ∷ c ∷ cs) ≡ record { at = at; text = b ∷ [] } ∷ words_from (at + 1) (c ∷ cs) = simp (other, space) in
+    let place : at + suc 0 ≡ at + 1 = omega arith in
+    rw (none, place) alone)
+    (λ goes_on.
+    let inside : in_word c ≡ true = rw goes_on refl in
+    let m : ℕ = prefix_len in_word cs in
+    let more : n ≡ suc m = e ∙ prefix_on in_word c cs inside in
+    let onto : words_from at (b ∷ c ∷ cs) ≡ onto_word at b (words_from (at + 1) (c ∷ cs)) = simp (other, goes_on) in
+    let place : at + 1 + suc m ≡ at + suc (suc m) = omega arith in
+    rw (more, ← place) (onto ∙ ap (onto_word at b) (word_first (at + 1) c cs m goes_on refl)))
 
 nothing_left : (at : ℕ) (rest : List ℕ) → prefix_len is_space rest ≡ 0 → prefix_len in_word rest ≡ 0 → words_from at rest ≡ []
 nothing_left at [] gap none = refl
 nothing_left at (b ∷ bs) gap none =
     by_space b
-      (λ space. let more : prefix_len is_space (b ∷ bs) ≡ suc (prefix_len is_space bs) = prefix_on is_space b bs space in absurd (omega arith))
-      (λ other.
-        let inside : in_word b ≡ true = rw other refl in
-        let more : prefix_len in_word (b ∷ bs) ≡ suc (prefix_len in_word bs) = prefix_on in_word b bs inside in
-        absurd (omega arith))
+    (λ space. let more : prefix_len is_space (b ∷ bs) ≡ suc (prefix_len is_space bs) = prefix_on is_space b bs space in absurd (omega arith))
+    (λ other.
+    let inside : in_word b ≡ true = rw other refl in
+    let more : prefix_len in_word (b ∷ bs) ≡ suc (prefix_len in_word bs) = prefix_on in_word b bs inside in
+    absurd (omega arith))
 
 some_left : (at : ℕ) (rest : List ℕ) (len : ℕ) → prefix_len is_space rest ≡ 0 → len ≡ prefix_len in_word rest → 0 < len
     → words_from at rest ≡ record { at = at; text = take len rest } ∷ words_from (at + len) (drop len rest)
 some_left at [] len gap e some = let none : len ≡ 0 = e in absurd (omega arith)
 some_left at (b ∷ bs) len gap e some =
     by_space b
-      (λ space. let more : prefix_len is_space (b ∷ bs) ≡ suc (prefix_len is_space bs) = prefix_on is_space b bs space in absurd (omega arith))
-      (λ other.
-        let inside : in_word b ≡ true = rw other refl in
-        let more : len ≡ suc (prefix_len in_word bs) = e ∙ prefix_on in_word b bs inside in
-        rw more (word_first at b bs (prefix_len in_word bs) other refl))
+    (λ space. let more : prefix_len is_space (b ∷ bs) ≡ suc (prefix_len is_space bs) = prefix_on is_space b bs space in absurd (omega arith))
+    (λ other.
+    let inside : in_word b ≡ true = rw other refl in
+    let more : len ≡ suc (prefix_len in_word bs) = e ∙ prefix_on in_word b bs inside in
+    rw more (word_first at b bs (prefix_len in_word bs) other refl))
 
 -- what the next word of a line is, by how many spaces stand in front and how many other bytes behind these
 pub no_word : (line : List ℕ) (at gap len : ℕ) → gap ≡ prefix_len is_space (drop at line) → len ≡ prefix_len in_word (drop (at + gap) line) → len ≡ 0

@@ -1,3 +1,5 @@
 pub mod Words
 pub mod Grammar
+pub mod Language
 pub mod Left
+pub mod Runs

@@ -1,5 +1,5 @@
 -- The words of a line: its longest runs of bytes other than spaces.
-use Rattle.std.specs.Prelude.{ℕ, ◌+◌, Bool, true, false, not, ◌==◌, List, [], ◌∷◌, if◌then◌else◌}
+use Rattle.std.specs.Prelude.{ℕ, ◌+◌, Bool, false, not, ◌==◌, List, [], ◌∷◌, if◌then◌else◌}
 
 abbrev pub is_space : ℕ → Bool
 is_space byte = byte == 32

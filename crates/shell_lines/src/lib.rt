@@ -1,9 +1,14 @@
 //! The lines of the shell's scripts.
 #![tactic(auto)]
 
+mod laws;
 mod line;
 mod parse;
 mod words;
 
+pub use laws::{bad_at_the_first_wrong_word, words_are_the_longest_runs};
 pub use line::{Line, LineStop, Word};
 pub use parse::parse_line;
+
+#[cfg(test)]
+mod tests;

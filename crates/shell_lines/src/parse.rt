@@ -45,11 +45,7 @@ fn first_unprintable(bytes: &[u8]) -> Option<usize>
     bytes.iter().position(|byte| !matches!(byte, b' '..=b'~'))
 }
 
-fn parse_command(
-    alloc: Global,
-    command: PlacedWord<'_>,
-    words: Words<'_>,
-) -> Result<Line, LineStop>
+fn parse_command(alloc: Global, command: PlacedWord<'_>, words: Words<'_>) -> Result<Line, LineStop>
     ensures { Spells result (command_of (length words.entry.line.now) (placed command.entry ∷ words_left words.entry)) }
 {
     if command.text == b"create".as_slice() {
@@ -66,7 +62,9 @@ fn parse_create(alloc: Global, mut words: Words<'_>) -> Result<Line, LineStop>
     ensures { Spells result (create_of (length words.entry.line.now) (words_left words.entry)) }
 {
     let Some(name) = words.next() else {
-        return Err(LineStop::Bad { at: words.end() as u32 });
+        return Err(LineStop::Bad {
+            at: words.end() as u32,
+        });
     };
     if name.text == b"-o".as_slice() {
         return Err(bad_at(name));
