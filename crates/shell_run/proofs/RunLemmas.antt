@@ -16,7 +16,7 @@ use Rattle.shell_run.specs.Answers.{AnswersTo}
 use Rattle.shell_run.specs.Endings.{EndsAs, SinkFaults, status_of, closing_line, ClosesAs}
 use Rattle.shell_run.specs.Progress.{Goes, Ends, Taken, Took, TookFront, Closes, TakesLine, TakesNone, Replied, LineRan}
 use Rattle.shell_run.specs.Texts.{bad_line, usage_line, read_fault_line, no_memory_line}
-use Rattle.shell_run.specs.Transcript.{World, on_host, Run, preceded, goes_on, checked, run_within, run_from, answer_of}
+use Rattle.shell_run.specs.Transcript.{World, on_host, Run, output_of, preceded, goes_on, checked, run_within, run_from, answer_of}
 use Rattle.shell_run.specs.Written.{IsFront, IsAnswered, Wrote, last_line}
 use Rattle.shell_run.proofs.WritingLemmas.{append_nil, Appends-nil, Appends-append, Took-after, Took-from_Appends}
 
@@ -348,3 +348,24 @@ closes_since e line first before now t1 t2 sink closed = record {
   front = closed.front;
   whole = ⊎_elim (λ whole. inl whole) (λ rose. inr (Rose-since first before now (sink_faults_later e first before sink) rose)) closed.whole;
 }
+
+-- the whole output of an answered run, where no fault of the sink was counted
+
+answered_line : (status : ℕ) (run : Run) → IsAnswered status → last_line status run ≡ run.last
+answered_line status run answered =
+    ⊎_elim (λ done. rw done refl) (λ other. ⊎_elim (λ usage. rw usage refl) (λ bad. rw bad refl) other) answered
+
+wrote_exactly : (run : Run) (status : ℕ) (rose : Type 0) (before after : List ℕ) → Wrote run status rose before after → IsAnswered status → (rose → ⊥) → after ≡ before ++ output_of run
+wrote_exactly run status rose before after wrote answered kept =
+    let whole : wrote.last ≡ run.last = ⊎_elim (λ same. same ∙ answered_line status run answered) (λ h. absurd (kept h)) wrote.whole in
+    wrote.written ∙ append_assoc before wrote.replies wrote.last
+    ∙ ap (λ (xs : List ℕ). before ++ (xs ++ wrote.last)) (wrote.answered answered).1
+    ∙ ap (λ (xs : List ℕ). before ++ (run.replies ++ xs)) whole
+
+pub exact_where_told : {B : Type 0} (script : Option B) (run : B → Run) (status : ℕ) (rose : Type 0) (t0 t2 : Option (List ℕ))
+    → IfSome script (λ bytes. IfSome t0 (λ before. IfSome t2 (λ after. Wrote (run bytes) status rose before after)))
+    → IfSome script (λ bytes. IfSome t0 (λ before. IfSome t2 (λ after. IsAnswered status → (rose → ⊥) → after ≡ before ++ output_of (run bytes))))
+exact_where_told None run status rose t0 t2 wrote = tt
+exact_where_told (Some bytes) run status rose None t2 wrote = tt
+exact_where_told (Some bytes) run status rose (Some before) None wrote = tt
+exact_where_told (Some bytes) run status rose (Some before) (Some after) wrote = wrote_exactly (run bytes) status rose before after wrote

@@ -66,6 +66,10 @@ pub record Run : Type 0 where
   pub replies : List ℕ
   pub last : List ℕ
 
+-- all that is printed
+abbrev pub output_of : Run → List ℕ
+output_of run = run.replies ++ run.last
+
 abbrev pub preceded : List ℕ → Run → Run
 preceded output run = record { status = run.status; replies = output ++ run.replies; last = run.last }
 

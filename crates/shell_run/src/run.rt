@@ -1,5 +1,5 @@
 // A run: the lines of a script, one after another.
-ghost use Rattle.std.specs.Prelude.{◌≡◌, ◌≢◌, ◌≤◌, ◌+◌, ◌⊎◌, [], List, ℕ, IfOk, IfErr, IfSome, OnOk, OnErr, Some, None, length};
+ghost use Rattle.std.specs.Prelude.{◌≡◌, ◌≢◌, ◌≤◌, ◌+◌, ◌++◌, ◌⊎◌, [], List, ℕ, IfOk, IfErr, IfSome, OnOk, OnErr, Some, None, length};
 ghost use Rattle.std.specs.Io.KnownBytes.{Appends};
 ghost use Rattle.std.specs.Result.{result_err};
 ghost use Rattle.dataset_tree.specs.Tree.{no_datasets};
@@ -9,7 +9,7 @@ ghost use Rattle.edge_io.specs.Told.{unread};
 ghost use Rattle.shell_lines.specs.Grammar.{line_of};
 ghost use Rattle.shell_run.specs.Endings.{EndsAs, closing_line, SourceFaults, SinkFaults, ClosesAs};
 ghost use Rattle.shell_run.specs.Progress.{Ends, Closes, LineRan, TakesLine, TakesNone, TookFront, Replied};
-ghost use Rattle.shell_run.specs.Transcript.{World, on_host, run_from, transcript};
+ghost use Rattle.shell_run.specs.Transcript.{World, on_host, run_from, transcript, output_of};
 ghost use Rattle.shell_run.specs.Written.{IsAnswered, Wrote};
 
 use crate::answer::answer;
@@ -57,7 +57,13 @@ pub fn run_alone<S: Source, O: Sink>(
     ensures transcript { IfSome (S.left script.old) (λ bytes. IfSome (O.taken out.old) (λ before. IfSome (O.taken out.new) (λ after.
         Wrote (transcript words.now bytes found.new) result (Rose (O.faults out.old) (O.faults out.new)) before after))) }
     ensures answered { IfSome (S.left script.old) (λ bytes. IsAnswered result → (transcript words.now bytes found.new).status ≡ result) }
+    ensures exact { IfSome (S.left script.old) (λ bytes. IfSome (O.taken out.old) (λ before. IfSome (O.taken out.new) (λ after.
+        IsAnswered result → ¬ Rose (O.faults out.old) (O.faults out.new) → after ≡ before ++ output_of (transcript words.now bytes found.new)))) }
     ensures read_to_its_end { result ≡ 0 → IfSome (S.left script.old) (λ bytes. S.left script.new ≡ Some []) }
+
+    // A script without a bad line is answered where no fault is counted and memory is found.
+    ensures complete { IfSome (S.left script.old) (λ bytes. (transcript words.now bytes found.new).status ≡ 0 →
+        ¬ Rose (S.faults script.old) (S.faults script.new) → ¬ Rose (O.faults out.old) (O.faults out.new) → (result ≡ 0) ⊎ (result ≡ 12)) }
 
     // Every other status has its cause.
     ensures statuses { IsAnswered result ⊎ (result ≡ 4) ⊎ (result ≡ 5) ⊎ (result ≡ 12) }
