@@ -19,7 +19,7 @@ pub record RecordValue : Type 0 where
   pub mac : List ℕ
   pub sealed : List ℕ
 
--- how many bytes a HMAC key has
+-- how many bytes an HMAC key has
 abbrev pub hmac_key_len : ℕ
 hmac_key_len = 64
 

@@ -15,7 +15,7 @@ use std::marker::Model;
 // The version of the records that are written.
 const VERSION: u8 = 1;
 
-// The bytes of a HMAC key.
+// The bytes of an HMAC key.
 const HMAC_KEY_LEN: usize = 64;
 
 // The most bytes of a sealed text.

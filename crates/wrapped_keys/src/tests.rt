@@ -4,7 +4,7 @@ use std::test::Fail;
 
 // From another implementation: what AES-256-GCM makes, under the wrapping key of the bytes 200 to
 // 231 and the initialization vector of the bytes 100 to 111, of a master key of the bytes from 128
-// on and a HMAC key of the bytes 0 to 63, with the additional data
+// on and an HMAC key of the bytes 0 to 63, with the additional data
 // 0100000000000000 0600000000000000 0100000000000000 (suite 6), and 7 and 8 in the place of the 6.
 
 const AES_128: &[u8; 118] =
