@@ -1,0 +1,3 @@
+pub mod ByIdLemmas
+pub mod OwnerLemmas
+pub mod PathLemmas

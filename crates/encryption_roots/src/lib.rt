@@ -1,0 +1,19 @@
+//! Encryption roots: where their keys come from, who owns a dataset's key, and the keystore's commands.
+#![tactic(auto)]
+
+mod command;
+mod kit;
+mod owners;
+mod props;
+mod roots;
+mod texts;
+
+pub use command::KeyCmd;
+pub use kit::{Fetched, LineKit, SeedGot};
+pub use owners::{family_of, owner_of, owners_by_walking};
+pub use props::{Location, Options, Prop, Props};
+pub use roots::Roots;
+pub use texts::{Material, PathText, PropText};
+
+#[cfg(test)]
+mod tests;
