@@ -1,0 +1,10 @@
+pub mod SoundLemmas
+pub mod CreateLawsRows
+pub mod CreateLawsGrown
+pub mod CreateLawsKeys
+pub mod CreateLawsMappings
+pub mod CreateLawsTree
+pub mod CreateLawsCases
+pub mod CreateLawsStep
+pub mod KeyLists
+pub mod KeyLaws

@@ -1,0 +1,9 @@
+pub mod Plain
+pub mod Users
+pub mod Sound
+pub mod Needs
+pub mod Refusals
+pub mod Told
+pub mod Properties
+pub mod Step
+pub mod Fair
