@@ -12,12 +12,13 @@ ghost use Rattle.key_machine.specs.Step.{step, target, Done};
 ghost use Rattle.key_machine.specs.Told.{Told, told};
 ghost use Rattle.key_machine.specs.Fair.{IsFair};
 
-/// A load, an unload and a `get` keep a sound state sound, where what is told of their material is fair.
+/// A load keeps a sound state sound, where what is told of its material is fair. An unload and a `get` take no material, and always
+/// keep it.
 pub fn loads_and_unloads_keep_soundness()
     ensures load { (c : Ciphers) (p : Plain) (told : Told) (name : List ℕ) (check_only : Bool) (place : Option Location) → Sound c p → IsFair c p (commands.Load name check_only place) told →
         Sound c (step p (commands.Load name check_only place) told).state }
-    ensures unload { (c : Ciphers) (p : Plain) (told : Told) (name : List ℕ) → Sound c p → IsFair c p (commands.Unload name) told → Sound c (step p (commands.Unload name) told).state }
-    ensures get { (c : Ciphers) (p : Plain) (told : Told) (name : List ℕ) (prop : Prop) → Sound c p → IsFair c p (commands.Get name prop) told → Sound c (step p (commands.Get name prop) told).state }
+    ensures unload { (c : Ciphers) (p : Plain) (told : Told) (name : List ℕ) → Sound c p → Sound c (step p (commands.Unload name) told).state }
+    ensures get { (c : Ciphers) (p : Plain) (told : Told) (name : List ℕ) (prop : Prop) → Sound c p → Sound c (step p (commands.Get name prop) told).state }
 {}
 
 /// Where the state refuses nothing and the material gives a key, a load is accepted exactly where each record that the root owns opens under that key.

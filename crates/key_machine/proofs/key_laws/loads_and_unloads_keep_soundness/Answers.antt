@@ -5,4 +5,4 @@ pub returns-clause-load : goal.returns-clause-load
 returns-clause-load c = load_sound
 
 pub returns-clause-unload : goal.returns-clause-unload
-returns-clause-unload c = λ ciphers p told name sound fair. unload_sound ciphers p told name sound
+returns-clause-unload c = unload_sound
