@@ -1,6 +1,5 @@
 -- The refusals of commands: number and name of each, and how a call tells one.
 use Rattle.std.specs.Prelude.{◌≡◌, ℕ, List, Result, Ok, Err}
-use Rattle.std.specs.declared.option.Option.{Option}
 use lib.Chars.{codes}
 use Rattle.dataset_tree.specs.declared.refusal.Refusal.{Refusal}
 use Rattle.dataset_tree.specs.declared.refusal.Refusal.TheVariants as refusals

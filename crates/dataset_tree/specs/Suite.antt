@@ -1,5 +1,7 @@
 -- The cipher suites of encrypted datasets.
-use Rattle.std.specs.Prelude.{ℕ, List}
+use Rattle.std.specs.Prelude.{ℕ, List, ◌==◌, if◌then◌else◌}
+use Rattle.std.specs.declared.option.Option.{Option}
+use Rattle.std.specs.declared.option.Option.TheVariants.{Some, None}
 use lib.Chars.{codes}
 use Rattle.dataset_tree.specs.declared.kinds.Suite.{Suite}
 use Rattle.dataset_tree.specs.declared.kinds.Suite.TheVariants.{Aes128Gcm, Aes192Gcm, Aes256Gcm}
@@ -9,6 +11,14 @@ abbrev pub suite_number : Suite → ℕ
 suite_number Aes128Gcm = 6
 suite_number Aes192Gcm = 7
 suite_number Aes256Gcm = 8
+
+-- the suite of a number, if one has it
+abbrev pub suite_numbered : ℕ → Option Suite
+suite_numbered number =
+    if number == suite_number Aes128Gcm then Some Aes128Gcm
+    else if number == suite_number Aes192Gcm then Some Aes192Gcm
+    else if number == suite_number Aes256Gcm then Some Aes256Gcm
+    else None
 
 -- its name in commands and replies
 abbrev pub suite_name : Suite → List ℕ

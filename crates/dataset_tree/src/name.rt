@@ -54,6 +54,13 @@ impl SetName {
         self.bytes.as_slice()
     }
 
+    /// The name of the parent, in bytes: what stands before the last slash, `None` for a name of one component.
+    pub fn parent(&self) -> Option<&[u8]>
+        ensures { option_copied result ≡ parent_name self.now }
+    {
+        parent_of(self.bytes.as_slice())
+    }
+
     /// An equal name.
     pub fn copy(&self) -> Result<SetName, NoMemory>
         ensures { IfOk result (λ name. name ≡ self.now) }
@@ -95,7 +102,7 @@ fn is_name_byte(byte: u8) -> bool
 }
 
 /// The name of the parent, if the name has more than one component.
-pub(crate) fn parent_of(name: &[u8]) -> Option<&[u8]>
+fn parent_of(name: &[u8]) -> Option<&[u8]>
     ensures { option_copied result ≡ parent_name name.now }
 {
     let mut last_slash = None;

@@ -3,7 +3,7 @@ ghost use Rattle.std.specs.Prelude.{◌≡◌, IfOk, OnOk, OnErr, ◌<◌, map, 
 ghost use Rattle.std.specs.Option.{option_copied};
 
 use crate::kinds::Kind;
-use crate::name::{SetName, parent_of};
+use crate::name::SetName;
 use crate::refusal::{NoMemory, Refusal, Stop};
 use std::alloc::Global;
 use std::marker::Model;
@@ -151,7 +151,7 @@ impl Tree {
     fn parent_id(&self, name: &SetName) -> Option<u32>
         ensures { result ≡ parent_in self.now.rows (parent_name name.now) }
     {
-        match parent_of(name.as_bytes()) {
+        match name.parent() {
             None => Some(0),
             Some(parent) => id_in(self.rows.as_slice(), parent),
         }

@@ -1,6 +1,7 @@
 //! Encryption roots: where their keys come from, who owns a dataset's key, and the keystore's commands.
 #![tactic(auto)]
 
+mod by_id;
 mod command;
 mod kit;
 mod owners;
@@ -8,6 +9,7 @@ mod props;
 mod roots;
 mod texts;
 
+pub use by_id::{at_id, put_at_id, remove_at_id};
 pub use command::KeyCmd;
 pub use kit::{Fetched, LineKit, SeedGot};
 pub use owners::{family_of, owner_of, owners_by_walking};

@@ -4,6 +4,7 @@ ghost use Rattle.std.specs.Option.{option_copied};
 ghost use Rattle.encryption_roots.specs.ById.{IsRisingById};
 ghost use Rattle.encryption_roots.specs.Roots.{props_of, with_root, without_root};
 
+use crate::by_id::{at_id, put_at_id, remove_at_id};
 use crate::props::Props;
 use dataset_tree::NoMemory;
 use std::alloc::Global;
@@ -44,12 +45,7 @@ impl Roots {
     pub fn get(&self, id: u32) -> Option<&Props>
         ensures { option_copied result ≡ props_of id self.now }
     {
-        let entries = self.entries.as_slice();
-        let at = place_in(entries, id);
-        if at < entries.len() && entries[at].0 == id {
-            return Some(&entries[at].1);
-        }
-        None
+        at_id(self.entries.as_slice(), id)
     }
 
     /// Whether the dataset is a root.
@@ -68,14 +64,14 @@ impl Roots {
         ensures full { OnErr result (256 ≤ length self.old) }
         ensures err { OnErr result (self.new ≡ self.old) }
     {
-        put_in(&mut self.entries, id, props)
+        put_at_id(&mut self.entries, id, props)
     }
 
     /// Takes the dataset out of the roots, if it is one.
     pub fn remove(&mut self, id: u32)
         ensures { self.new ≡ without_root id self.old }
     {
-        self.entries.retain(|entry| entry.0 != id);
+        remove_at_id(&mut self.entries, id);
     }
 
     /// The roots with their properties, in rising order of id.
@@ -96,34 +92,4 @@ impl Roots {
         }
         Ok(Roots { entries })
     }
-}
-
-ghost use Rattle.std.specs.Prelude.{vec_capacity};
-ghost use Rattle.std.specs.List.{AllWithin};
-
-/// Where the root of this id stands, or would stand.
-fn place_in(entries: &[(u32, Props)], id: u32) -> usize
-    requires { IsRisingById entries.now }
-    ensures within { result ≤ length entries.now }
-    ensures below { AllWithin (λ entry. entry.0 < id) entries.now 0 result }
-    ensures above { AllWithin (λ entry. id ≤ entry.0) entries.now result (length entries.now) }
-{
-    entries.partition_point(|entry| entry.0 < id)
-}
-
-fn put_in(entries: &mut Vec<(u32, Props)>, id: u32, props: Props) -> Result<(), NoMemory>
-    requires { IsRisingById entries.old.items }
-    ensures ok { OnOk result (entries.new.items ≡ with_root id props entries.old.items) }
-    ensures full { OnErr result (vec_capacity entries.old ≤ length entries.old.items) }
-    ensures err { OnErr result (entries.new.items ≡ entries.old.items) }
-    ensures rising { IsRisingById entries.new.items }
-    ensures room { vec_capacity entries.old ≤ vec_capacity entries.new }
-{
-    let at = place_in(entries, id);
-    if at < entries.len() && entries[at].0 == id {
-        entries[at] = (id, props);
-        return Ok(());
-    }
-    entries.insert(at, (id, props))?;
-    Ok(())
 }

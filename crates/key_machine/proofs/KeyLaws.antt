@@ -253,7 +253,7 @@ key_kept p root key (Some owner) known =
     ⊎_elim (λ (same : owner ≡ root). rw (same, at_id-with_id root key p.loaded) refl) (λ (apart : owner ≢ root). rw (at_id-with_id_other root owner key p.loaded apart) known) (cases_eq owner root)
 
 module _ (c : Ciphers) (p : Plain) (s : Sound c p) (root : ℕ) (key : List ℕ) (there : is_root p root ≡ true) (opened : All (λ entry. is_some (c.opens entry.1.wrapped key) ≡ true) (owned p root)) where
-  with_key_sound : Sound c (record p { loaded = with_id root key p.loaded })
+  pub with_key_sound : Sound c (record p { loaded = with_id root key p.loaded })
   with_key_sound = record {
     tree = record {
       tree = s.tree.tree;
@@ -322,7 +322,7 @@ load_sound c p told name check_only place s fair =
 
 -- ---- when a load is accepted
 
-none_wrong : (c : Ciphers) (key : List ℕ) (entries : List (ℕ × Stored)) → (first_wrong c key entries ≡ None) ↔ All (λ entry. is_some (c.opens entry.1.wrapped key) ≡ true) entries
+pub none_wrong : (c : Ciphers) (key : List ℕ) (entries : List (ℕ × Stored)) → (first_wrong c key entries ≡ None) ↔ All (λ entry. is_some (c.opens entry.1.wrapped key) ≡ true) entries
 none_wrong c key [] = (λ none. All-nil _, λ all. refl)
 none_wrong c key (entry ∷ entries) =
     let Opens : ℕ × Stored → Type 0 = λ entry. is_some (c.opens entry.1.wrapped key) ≡ true in

@@ -1,5 +1,5 @@
 -- What the material of a command gives: its first fault, the record that doesn't open, the key, the salt, and the records to write.
-use Rattle.std.specs.Prelude.{ℕ, ◌+◌, ◌*◌, List, [], ◌∷◌, take, slice_get, ◌==◌, is_some, unwrap_or, if◌then◌else◌, Result, Ok, Err}
+use Rattle.std.specs.Prelude.{ℕ, ◌+◌, ◌*◌, List, [], ◌∷◌, take, slice_get, is_some, unwrap_or, if◌then◌else◌, Result, Ok, Err}
 use Rattle.std.specs.declared.option.Option.{Option}
 use Rattle.std.specs.declared.option.Option.TheVariants.{Some, None}
 use Rattle.std.specs.Option.{option_and_then}
@@ -7,11 +7,12 @@ use Rattle.std.specs.Result.{result_err}
 use Rattle.dataset_tree.specs.declared.kinds.Format.{Format}
 use Rattle.dataset_tree.specs.declared.kinds.Format.TheVariants.{Raw}
 use Rattle.dataset_tree.specs.declared.kinds.Suite.{Suite}
-use Rattle.dataset_tree.specs.declared.kinds.Suite.TheVariants.{Aes128Gcm, Aes192Gcm, Aes256Gcm}
+use Rattle.dataset_tree.specs.declared.kinds.Suite.TheVariants.{Aes256Gcm}
 use Rattle.dataset_tree.specs.declared.refusal.Refusal.{Refusal}
 use Rattle.dataset_tree.specs.declared.refusal.Refusal.TheVariants.{KeyFileMissing, KeyFault, EntropyFault}
 use Rattle.dataset_tree.specs.declared.tree.Row.{Row}
-use Rattle.dataset_tree.specs.Suite.{suite_number, suite_key_len}
+use Rattle.byte_fields.specs.LittleEndian.{little_endian_value}
+use Rattle.dataset_tree.specs.Suite.{suite_numbered, suite_key_len}
 use Rattle.dataset_tree.specs.Tree.{id_named}
 use Rattle.encryption_roots.specs.declared.props.Props.{Props}
 use Rattle.encryption_roots.specs.declared.props.Options.{Options}
@@ -58,11 +59,6 @@ salt_place = 34
 abbrev pub vector_place : ℕ → ℕ
 vector_place i = 36 + 3 * i
 
--- the number of bytes, the lowest first
-abbrev pub number_of_bytes : List ℕ → ℕ
-number_of_bytes [] = 0
-number_of_bytes (b ∷ bs) = b + 256 * number_of_bytes bs
-
 abbrev pub seed_of : SeedGot → Option (List ℕ)
 seed_of seeds.NotAsked = None
 seed_of (seeds.Got seed) = Some seed
@@ -91,17 +87,9 @@ first_fault None later = later
 
 -- ---- a new dataset
 
--- the suite that a stored record names
-abbrev pub suite_of_number : ℕ → Option Suite
-suite_of_number number =
-    if number == suite_number Aes128Gcm then Some Aes128Gcm
-    else if number == suite_number Aes192Gcm then Some Aes192Gcm
-    else if number == suite_number Aes256Gcm then Some Aes256Gcm
-    else None
-
--- the suite byte stands behind the guid
+-- the suite that a stored record names, by the byte behind its guid
 abbrev pub suite_of : List ℕ → Option Suite
-suite_of stored = option_and_then suite_of_number (slice_get stored 8)
+suite_of stored = option_and_then suite_numbered (slice_get stored 8)
 
 abbrev pub suite_of_family : Plain → ℕ → Option Suite
 suite_of_family p id = option_and_then (λ stored. suite_of stored.wrapped) (at_id id p.wrapped)
@@ -121,12 +109,12 @@ abbrev pub new_iters : Options → ℕ
 new_iters opts = if is_passphrase opts.format then unwrap_or opts.iters 350000 else 0
 
 abbrev pub new_salt : Ciphers → Options → List ℕ → ℕ
-new_salt c opts seed = if is_passphrase opts.format then number_of_bytes (c.seed_bytes seed salt_place 2) else 0
+new_salt c opts seed = if is_passphrase opts.format then little_endian_value (c.seed_bytes seed salt_place 2) else 0
 
 -- the master key that a seed's words make
 abbrev pub seeded_master : Ciphers → Suite → List ℕ → Master
 seeded_master c suite seed = record {
-  guid = number_of_bytes (c.seed_bytes seed guid_place 2);
+  guid = little_endian_value (c.seed_bytes seed guid_place 2);
   suite = suite;
   master = take (suite_key_len suite) (c.seed_bytes seed master_place 8);
   hmac = c.seed_bytes seed hmac_place 16;

@@ -5,24 +5,24 @@ use Rattle.std.proofs.lemmas.List.{take_at, drop_at, length-take-le, get_or-take
 use Rattle.std.proofs.lemmas.Bool.{cases_lt}
 use Rattle.dataset_tree.specs.declared.kinds.Suite.{Suite}
 use Rattle.dataset_tree.specs.declared.kinds.Suite.TheVariants.{Aes128Gcm, Aes192Gcm, Aes256Gcm}
-use Rattle.dataset_tree.specs.Suite.{suite_number}
+use Rattle.dataset_tree.specs.Suite.{suite_number, suite_numbered}
 use Rattle.byte_fields.specs.LittleEndian.{little_endian_bytes, little_endian_value}
 use Rattle.byte_fields.proofs.FieldLaws.{little_endian_value-bytes, little_endian_bytes-value}
 use Rattle.wrapped_keys.specs.Values.{MasterValue, RecordValue, sealed_len, IsMasterKey, IsRecord}
 use Rattle.wrapped_keys.specs.Wrapping.{record_of, opens}
-use Rattle.wrapped_keys.specs.Stored.{header_bytes, record_bytes, suite_of, record_at, parsed_record, opens_bytes}
+use Rattle.wrapped_keys.specs.Stored.{header_bytes, record_bytes, record_at, parsed_record, opens_bytes}
 use Rattle.wrapped_keys.specs.PaddedRecord.{IsPaddedRecord, record_value}
 use Rattle.wrapped_keys.specs.declared.key_record.KeyRecord.TheInside.{Inside}
 use Rattle.wrapped_keys.proofs.WrappingLaws.{length-aead_seal, length-aead_tag, opens-record_of}
 use Rattle.wrapped_keys.proofs.Parts.{key_len-le, take_parts}
 
-suite_of-number : (suite : Suite) → suite_of (suite_number suite) ≡ Some suite
-suite_of-number Aes128Gcm = refl
-suite_of-number Aes192Gcm = refl
-suite_of-number Aes256Gcm = refl
+suite_numbered-number : (suite : Suite) → suite_numbered (suite_number suite) ≡ Some suite
+suite_numbered-number Aes128Gcm = refl
+suite_numbered-number Aes192Gcm = refl
+suite_numbered-number Aes256Gcm = refl
 
-suite_of-none : (number : ℕ) → ((suite : Suite) → suite_number suite ≢ number) → suite_of number ≡ None
-suite_of-none number none =
+suite_numbered-none : (number : ℕ) → ((suite : Suite) → suite_number suite ≢ number) → suite_numbered number ≡ None
+suite_numbered-none number none =
     let six : (number == 6) ≡ false = ne_eqb number 6 (λ e. none Aes128Gcm (sym e)) in
     let seven : (number == 7) ≡ false = ne_eqb number 7 (λ e. none Aes192Gcm (sym e)) in
     let eight : (number == 8) ≡ false = ne_eqb number 8 (λ e. none Aes256Gcm (sym e)) in
@@ -36,14 +36,14 @@ parsed_short bytes short = rw (get_or_past bytes 8 0 short) refl
 
 pub parsed_no_suite : (bytes : List ℕ) → ((suite : Suite) → suite_number suite ≢ slice_index bytes 8) → parsed_record bytes ≡ None
 unfolding parsed_record
-parsed_no_suite bytes none = rw (suite_of-none (slice_index bytes 8) none) refl
+parsed_no_suite bytes none = rw (suite_numbered-none (slice_index bytes 8) none) refl
 
 pub parsed_other_length : (suite : Suite) (bytes : List ℕ) → suite_number suite ≡ slice_index bytes 8
     → length bytes ≢ 38 + sealed_len suite → parsed_record bytes ≡ None
 unfolding parsed_record
 parsed_other_length suite bytes named other =
     let short : (length bytes == 38 + sealed_len suite) ≡ false = ne_eqb (length bytes) (38 + sealed_len suite) other in
-    rw (← named, suite_of-number suite, short) refl
+    rw (← named, suite_numbered-number suite, short) refl
 
 pub parsed_other_version : (suite : Suite) (bytes : List ℕ) → suite_number suite ≡ slice_index bytes 8
     → length bytes ≡ 38 + sealed_len suite → slice_index bytes 9 ≢ 1 → parsed_record bytes ≡ None
@@ -51,7 +51,7 @@ unfolding parsed_record
 parsed_other_version suite bytes named whole other =
     let long : (length bytes == 38 + sealed_len suite) ≡ true = eq-eqb (length bytes) (38 + sealed_len suite) whole in
     let old : (slice_index bytes 9 == 1) ≡ false = ne_eqb (slice_index bytes 9) 1 other in
-    rw (← named, suite_of-number suite, long, old) refl
+    rw (← named, suite_numbered-number suite, long, old) refl
 
 pub parsed_good : (suite : Suite) (bytes : List ℕ) → suite_number suite ≡ slice_index bytes 8
     → length bytes ≡ 38 + sealed_len suite → slice_index bytes 9 ≡ 1
@@ -60,7 +60,7 @@ unfolding parsed_record
 parsed_good suite bytes named whole version =
     let long : (length bytes == 38 + sealed_len suite) ≡ true = eq-eqb (length bytes) (38 + sealed_len suite) whole in
     let current : (slice_index bytes 9 == 1) ≡ true = eq-eqb (slice_index bytes 9) 1 version in
-    rw (← named, suite_of-number suite, long, current) refl
+    rw (← named, suite_numbered-number suite, long, current) refl
 
 -- ---- each is the inverse of the other
 

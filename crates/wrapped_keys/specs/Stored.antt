@@ -2,8 +2,7 @@
 use Rattle.std.specs.Prelude.{ℕ, ◌+◌, Bool, ◌&&◌, ◌==◌, if◌then◌else◌, List, [], ◌∷◌, ◌++◌, length, take, drop, slice_index, Option, Some, None}
 use Rattle.std.specs.Option.{option_and_then}
 use Rattle.dataset_tree.specs.declared.kinds.Suite.{Suite}
-use Rattle.dataset_tree.specs.declared.kinds.Suite.TheVariants.{Aes128Gcm, Aes192Gcm, Aes256Gcm}
-use Rattle.dataset_tree.specs.Suite.{suite_number}
+use Rattle.dataset_tree.specs.Suite.{suite_number, suite_numbered}
 use Rattle.byte_fields.specs.LittleEndian.{little_endian_bytes, little_endian_value}
 use Rattle.wrapped_keys.specs.Values.{MasterValue, RecordValue, sealed_len, current_version}
 use Rattle.wrapped_keys.specs.Wrapping.{opens}
@@ -14,14 +13,6 @@ header_bytes r = little_endian_bytes 8 r.guid ++ (suite_number r.suite ∷ r.ver
 
 unfoldable pub record_bytes : RecordValue → List ℕ
 record_bytes r = header_bytes r ++ r.sealed
-
--- the suite of a number
-abbrev pub suite_of : ℕ → Option Suite
-suite_of number =
-    if number == suite_number Aes128Gcm then Some Aes128Gcm
-    else if number == suite_number Aes192Gcm then Some Aes192Gcm
-    else if number == suite_number Aes256Gcm then Some Aes256Gcm
-    else None
 
 -- the fields of a record of this suite
 abbrev pub record_at : Suite → List ℕ → RecordValue
@@ -43,7 +34,7 @@ is_record suite bytes = length bytes == 38 + sealed_len suite && slice_index byt
 unfoldable pub parsed_record : List ℕ → Option RecordValue
 parsed_record bytes =
     option_and_then (λ suite. if is_record suite bytes then Some (record_at suite bytes) else None)
-    (suite_of (slice_index bytes 8))
+    (suite_numbered (slice_index bytes 8))
 
 -- the master key of the record that is stored in these bytes, none where they are no record or its tag differs
 abbrev pub opens_bytes : (bytes wrapping : List ℕ) → Option MasterValue

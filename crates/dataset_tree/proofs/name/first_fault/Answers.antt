@@ -1,4 +1,4 @@
-use Rattle.std.proofs.Common.{◌≡◌, arith, length, ◌<◌}
+use Rattle.std.proofs.Common.{arith, length, ◌<◌}
 use Rattle.std.proofs.lemmas.Grind.{common_steps}
 use Rattle.dataset_tree.proofs.NameLemmas.{fault_goes_on_at_slash, fault_goes_on_at_name_byte, fault_past_the_end}
 use Rattle.dataset_tree.proofs.name.first_fault.Goals as goal

@@ -1,4 +1,4 @@
-use Rattle.std.proofs.Common.{◌≡◌, ◌<◌, ◌≤◌, length, take, drop}
+use Rattle.std.proofs.Common.{◌≡◌, ◌<◌, ◌≤◌, take, drop}
 use Rattle.std.specs.List.{count_by}
 use Rattle.dataset_tree.specs.SetName.{is_slash, ends_in_component, name_fault, name_fault_after}
 use Rattle.dataset_tree.proofs.name.first_fault.Given as goal

@@ -1,4 +1,4 @@
-use Rattle.std.proofs.Common.{◌≡◌, arith, length, ◌<◌}
+use Rattle.std.proofs.Common.{arith, length, ◌<◌}
 use Rattle.std.proofs.lemmas.Grind.{common_steps}
 use Rattle.dataset_tree.proofs.NameLemmas.{parent_at_slash, parent_elsewhere}
 use Rattle.dataset_tree.proofs.name.parent_of.Goals as goal

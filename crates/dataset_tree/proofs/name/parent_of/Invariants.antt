@@ -1,4 +1,4 @@
-use Rattle.std.proofs.Common.{◌≡◌, ◌<◌, ◌≤◌, length, take, IfSome}
+use Rattle.std.proofs.Common.{◌≡◌, ◌<◌, length, take, IfSome}
 use Rattle.std.specs.Option.{option_map}
 use Rattle.dataset_tree.specs.SetName.{parent_name}
 use Rattle.dataset_tree.proofs.name.parent_of.Given as goal

@@ -1,29 +1,27 @@
-use Rattle.std.proofs.Common.{◌≡◌, ◌≢◌, ◌<◌, ◌≤◌, ℕ, length, get_or, ◌∙◌, arith}
+use Rattle.std.proofs.Common.{◌≡◌, ◌<◌, ◌≤◌, length, get_or, ◌∙◌, arith}
 use Rattle.std.proofs.lemmas.Grind.{common_steps}
 use Rattle.std.specs.List.{AllWithin}
-use Rattle.encryption_roots.specs.declared.props.Props.{Props}
 use Rattle.encryption_roots.proofs.ByIdLemmas.{with_id-replaced, with_id-added, IsRisingById-with_id}
-use Rattle.encryption_roots.proofs.roots.put_in.Goals as goal
-use Rattle.encryption_roots.proofs.roots.put_in.Goals.{else-at-len-via-then-at-len+else-index-id, else-at-len-via-else-at-len}
+use Rattle.encryption_roots.proofs.by_id.put_at_id.Goals as goal
+use Rattle.encryption_roots.proofs.by_id.put_at_id.Goals.{else-at-len-via-then-at-len+else-index-id, else-at-len-via-else-at-len}
 
 pub returns-then-index-id-clause-ok : goal.returns-then-index-id-clause-ok
-returns-then-index-id-clause-ok c =
+returns-then-index-id-clause-ok g c =
     let within : c.place_in-at.result < length c.args.entries.now.items = omega arith in
     let below : AllWithin (λ entry. entry.0 < c.args.id) c.args.entries.now.items 0 c.place_in-at.result = rw c.deref.ensures.value at c.place_in-at.ensures.below in
     let here : (get_or c.args.entries.now.items c.place_in-at.result c.index.result.now).0 ≡ c.args.id = grind (arith, common_steps) in
-    with_id-replaced c.args.id c.args.props c.args.entries.now.items c.place_in-at.result c.index.result.now within below here
+    with_id-replaced c.args.id c.args.value c.args.entries.now.items c.place_in-at.result c.index.result.now within below here
 
 pub returns-clause-ok : goal.returns-clause-ok
-returns-clause-ok c =
+returns-clause-ok g c =
     let below : AllWithin (λ entry. entry.0 < c.args.id) c.args.entries.now.items 0 c.place_in-at.result = rw c.deref.ensures.value at c.place_in-at.ensures.below in
     let above : AllWithin (λ entry. c.args.id ≤ entry.0) c.args.entries.now.items c.place_in-at.result (length c.args.entries.now.items) = rw c.deref.ensures.value at c.place_in-at.ensures.above in
     let within : c.place_in-at.result ≤ length c.args.entries.now.items = rw c.deref.ensures.value at c.place_in-at.ensures.within in
-    let apart : (d : ℕ × Props) → c.place_in-at.result < length c.args.entries.now.items → (get_or c.args.entries.now.items c.place_in-at.result d).0 ≢ c.args.id =
-    elim c.else-at-len.branch [
+    c.in_ok-insert.ensures.items ∙ with_id-added c.args.id c.args.value c.args.entries.now.items c.place_in-at.result within below above
+    (elim c.else-at-len.branch [
       | else-at-len-via-then-at-len+else-index-id w ↦ λ d inside. grind (arith, common_steps)
       | else-at-len-via-else-at-len w ↦ λ d inside. absurd (omega arith)
-    ] in
-    c.in_ok-insert.ensures.items ∙ with_id-added c.args.id c.args.props c.args.entries.now.items c.place_in-at.result within below above apart
+    ])
 
 pub returns-clause-rising : goal.returns-clause-rising
-returns-clause-rising c = rw (returns-clause-ok c) (IsRisingById-with_id c.args.id c.args.props c.args.entries.now.items c.requires)
+returns-clause-rising g c = rw (returns-clause-ok g c) (IsRisingById-with_id c.args.id c.args.value c.args.entries.now.items c.requires)
