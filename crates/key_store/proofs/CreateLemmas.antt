@@ -1,0 +1,192 @@
+-- A create that the state doesn't refuse.
+use Rattle.std.proofs.Common.{◌≡◌, ⊎_elim, inr, ℕ, ◌+◌, ◌<◌, ◌≤◌, Bool, true, false, not, cond, ◌&&◌, ◌||◌, nat_le, List, [], ◌∷◌, length, map, Option, Some, None, Ok, Err, is_some, is_none, refl, ap, sym, ◌∙◌, subst, arith}
+use Rattle.std.proofs.lemmas.Bool.{cases_Bool}
+use Rattle.std.proofs.lemmas.Bool.Decides.{nat_tests}
+use Rattle.std.proofs.lemmas.List.Elements.{All-nil, All-cons, recursion_from_All}
+use Rattle.dataset_tree.specs.declared.kinds.Kind.TheVariants.{Plain as PlainKind, Crypt}
+use Rattle.dataset_tree.specs.declared.refusal.Refusal.{Refusal}
+use Rattle.dataset_tree.specs.declared.refusal.Refusal.TheVariants.{Exists}
+use Rattle.dataset_tree.specs.SetName.{parent_name}
+use Rattle.dataset_tree.specs.Tree.{Datasets, row_of, row_named, parent_in, id_below, new_id, with_row}
+use Rattle.encryption_roots.specs.declared.props.Options.{Options}
+use Rattle.encryption_roots.specs.declared.props.Props.{Props}
+use Rattle.encryption_roots.specs.ById.{at_id, with_id}
+use Rattle.encryption_roots.proofs.ByIdLemmas.{at_id-with_id}
+use Rattle.encryption_roots.proofs.OwnerLemmas.{owner_of_root}
+use Rattle.dataset_tree.specs.declared.tree.Row.{Row}
+use Rattle.std.specs.Option.{option_and_then}
+use Rattle.key_machine.proofs.CreateLawsRows.{row_of_new}
+use Rattle.dataset_tree.specs.declared.kinds.Format.{Format}
+use Rattle.std.specs.Prelude.{unwrap_or, if◌then◌else◌}
+use Rattle.encryption_roots.specs.declared.command.KeyCmd.TheVariants as commands
+use Rattle.encryption_roots.specs.declared.kit.LineKit.{LineKit}
+use Rattle.key_machine.specs.Plain.{Plain, Stored, Ciphers, owner_of, mkey}
+use Rattle.key_machine.specs.Needs.{makes_root, makes_encrypted, is_below_encrypted, parent_row}
+use Rattle.key_machine.specs.Refusals.{first_of, refusal_of, create_cases, is_passphrase, are_bad_options, are_bad_iterations}
+use Rattle.key_machine.specs.Told.{Told, nothing_told, told, told_create_with, create_key, seed_of, parent_key}
+use Rattle.key_machine.specs.Step.{Stepped, Made, step, new_props, new_stored}
+use Rattle.key_machine.specs.Fair.{IsGenuine, AllOpen, key_written}
+use Rattle.key_machine.specs.Sound.{Sound}
+use Rattle.key_machine.proofs.SoundLemmas.{accepted_step}
+use Rattle.key_machine.proofs.CreateLawsCases.{created_with, new_row}
+use Rattle.key_machine.proofs.CreateLawsStep.{create_keeps}
+use Rattle.key_store.specs.declared.create.NewRoot.{NewRoot}
+use Rattle.key_store.specs.Ciphers.{ciphers}
+use Rattle.key_store.specs.Calls.{stepped}
+use Rattle.key_store.specs.NewRoot.{IsToldRoot}
+use Rattle.key_store.specs.State.{stored_of}
+
+-- ---- what the state didn't refuse
+
+abbrev NoneHolds : List (Bool × Refusal) → Type 0
+NoneHolds [] = Unit {0}
+NoneHolds (case ∷ cases) = (case.0 ≡ false) × NoneHolds cases
+
+none_holds : (cases : List (Bool × Refusal)) → first_of cases ≡ None → NoneHolds cases
+none_holds [] none = tt
+none_holds (case ∷ cases) none =
+    ⊎_elim (λ (holds : case.0 ≡ true). absurd (let some : Some case.1 ≡ None = rw holds at none in cc)) (λ (fails : case.0 ≡ false). (fails, none_holds cases (rw fails at none))) (cases_Bool case.0)
+
+pub record IsFree (p : Plain) (name : List ℕ) (opts : Options) : Type 0 where
+  pub absent : is_some (row_named name p.tree.rows) ≡ false
+  pub parent : is_none (parent_in p.tree.rows (parent_name name)) ≡ false
+  pub options : are_bad_options p name opts ≡ false
+  pub iterations : are_bad_iterations opts.iters ≡ false
+  pub rows : length p.tree.rows < 256
+  pub ids : p.tree.last < 4294967295
+  pub families : (makes_encrypted p name opts && nat_le 32 (length p.wrapped)) ≡ false
+
+pub free : (p : Plain) (name : List ℕ) (opts : Options) → refusal_of p (commands.Create name opts) ≡ None → IsFree p name opts
+free p name opts accepted =
+    let none : NoneHolds (create_cases p name opts) = none_holds (create_cases p name opts) accepted in
+    record {
+      absent = none.0;
+      parent = none.1.0;
+      options = none.1.1.0;
+      iterations = none.1.1.1.0;
+      rows = below (length p.tree.rows) 256 none.1.1.1.1.1.0;
+      ids = below p.tree.last 4294967295 none.1.1.1.1.1.1.0;
+      families = none.1.1.1.1.1.1.1.0;
+    } where
+      below : (n limit : ℕ) → nat_le limit n ≡ false → n < limit
+      below n limit test = grind (arith, nat_tests)
+
+pub few_families : (p : Plain) (name : List ℕ) (opts : Options) → IsFree p name opts → makes_encrypted p name opts ≡ true → length p.wrapped < 32
+few_families p name opts is encrypted =
+    let test : nat_le 32 (length p.wrapped) ≡ false = rw encrypted at is.families in
+    grind (arith, nat_tests)
+
+-- ---- the new id
+
+given_below : (t : Datasets) (parent : Option ℕ) → is_none parent ≡ false → length t.rows < 256 → t.last < 4294967295 → id_below t parent ≡ Ok (t.last + 1)
+given_below t None there rows ids = absurd (cc)
+given_below t (Some parent) there rows ids = grind (arith, nat_tests)
+
+pub given_id : (p : Plain) (name : List ℕ) (opts : Options) → IsFree p name opts → new_id p.tree name ≡ Ok (p.tree.last + 1)
+given_id p name opts is =
+    ap (λ b. cond b (Err Exists) (id_below p.tree (parent_in p.tree.rows (parent_name name)))) is.absent ∙ given_below p.tree (parent_in p.tree.rows (parent_name name)) is.parent is.rows is.ids
+
+-- ---- a plain dataset
+
+not_below : (format : Option Format) (place iters suite below : Bool) → format ≡ None
+    → (if is_some format then iters && not (is_passphrase format) else place || iters || suite && not below || below) ≡ false → below ≡ false
+not_below None place iters suite below plain good = last_false (place || iters || suite && not below) below good where
+  last_false : (a b : Bool) → (a || b) ≡ false → b ≡ false
+  last_false true b h = absurd (cc)
+  last_false false b h = h
+not_below (Some format) place iters suite below plain good = absurd (cc)
+
+module _ (p : Plain) (name : List ℕ) (opts : Options) (accepted : refusal_of p (commands.Create name opts) ≡ None) (plain : opts.format ≡ None) where
+  is_no_root : makes_root opts ≡ false
+  is_no_root = ap (λ format. is_some format) plain
+
+  is_not_encrypted : makes_encrypted p name opts ≡ false
+  is_not_encrypted =
+      let is : IsFree p name opts = free p name opts accepted in
+      let below : is_below_encrypted p name ≡ false = not_below opts.format (is_some opts.place) (is_some opts.iters) (is_some opts.suite) (is_below_encrypted p name) plain is.options in
+      ap (λ b. b || (not b && is_below_encrypted p name)) is_no_root ∙ below
+
+  plain_carried : step p (commands.Create name opts) nothing_told ≡ record { state = record p { tree = with_row p.tree name PlainKind 0 }; reply = Made (p.tree.last + 1) }
+  plain_carried =
+      let carried : step p (commands.Create name opts) nothing_told ≡ record { state = created_with p name opts nothing_told (makes_root opts) (makes_encrypted p name opts); reply = Made (p.tree.last + 1) } =
+      accepted_step p (commands.Create name opts) nothing_told (record { state = accepted; material = refl; records = refl }) in
+      carried
+      ∙ ap (λ b. record { state = created_with p name opts nothing_told b (makes_encrypted p name opts); reply = Made (p.tree.last + 1) }) is_no_root
+      ∙ ap (λ b. record { state = created_with p name opts nothing_told false b; reply = Made (p.tree.last + 1) }) is_not_encrypted
+
+  pub plain_step : (kit : LineKit) → stepped p (commands.Create name opts) kit ≡ record { state = record p { tree = with_row p.tree name PlainKind 0 }; reply = Made (p.tree.last + 1) }
+  plain_step kit =
+      let seed : List ℕ = unwrap_or (seed_of kit.seed) [] in
+      let facts : told ciphers p (commands.Create name opts) kit ≡ nothing_told =
+      ap (λ b. cond b (told_create_with ciphers p name opts kit seed (create_key ciphers p name opts kit seed)) nothing_told) is_not_encrypted in
+      ap (λ told. step p (commands.Create name opts) told) facts ∙ plain_carried
+
+  pub plain_sound : Sound ciphers p → Sound ciphers (record p { tree = with_row p.tree name PlainKind 0 })
+  plain_sound sound =
+      let genuine : IsGenuine ciphers p (commands.Create name opts) nothing_told = record {
+        owned = tt;
+        families = sym (ap (λ b. cond b ((p.tree.last + 1) ∷ []) []) is_not_encrypted);
+        opened = All-nil _;
+      } in
+      subst (λ (s : Stepped). Sound ciphers s.state) plain_carried (create_keeps ciphers p name opts nothing_told sound (inr genuine))
+
+-- ---- the master key of a family
+
+mkey_by : (c : Ciphers) (p : Plain) (family root : ℕ) (stored : Stored) (key : List ℕ) → at_id family p.wrapped ≡ Some stored → owner_of p family ≡ Some root → at_id root p.loaded ≡ Some key
+    → mkey c p family ≡ c.opens stored.wrapped key
+mkey_by c p family root stored key wrapped owner loaded =
+    ap (λ found. option_and_then (λ s. option_and_then (λ r. option_and_then (λ k. c.opens s.wrapped k) (at_id r p.loaded)) (owner_of p family)) found) wrapped
+    ∙ ap (λ found. option_and_then (λ r. option_and_then (λ k. c.opens stored.wrapped k) (at_id r p.loaded)) found) owner
+    ∙ ap (λ found. option_and_then (λ k. c.opens stored.wrapped k) found) loaded
+
+-- ---- an encryption root
+
+module _ (p : Plain) (name : List ℕ) (opts : Options) (facts : Told) (root : NewRoot) (accepted : refusal_of p (commands.Create name opts) ≡ None) (is_root : makes_root opts ≡ true)
+    (is : IsToldRoot p.tree.last opts facts root) where
+  pub is_encrypted : makes_encrypted p name opts ≡ true
+  is_encrypted = ap (λ b. b || (not b && is_below_encrypted p name)) is_root
+
+  pub root_step : step p (commands.Create name opts) facts ≡ record { state = created_with p name opts facts true true; reply = Made (p.tree.last + 1) }
+  root_step =
+      let carried : step p (commands.Create name opts) facts ≡ record { state = created_with p name opts facts (makes_root opts) (makes_encrypted p name opts); reply = Made (p.tree.last + 1) } =
+      accepted_step p (commands.Create name opts) facts (record { state = accepted; material = is.no_fault; records = is.none_wrong }) in
+      carried
+      ∙ ap (λ b. record { state = created_with p name opts facts b (makes_encrypted p name opts); reply = Made (p.tree.last + 1) }) is_root
+      ∙ ap (λ b. record { state = created_with p name opts facts true b; reply = Made (p.tree.last + 1) }) is_encrypted
+
+  pub root_sound : Sound ciphers p → Sound ciphers (created_with p name opts facts true true)
+  root_sound sound =
+      let key : key_written p (commands.Create name opts) facts ≡ root.key = ap (λ b. cond b facts.key (parent_key p (parent_row p name))) is_root ∙ is.key in
+      let one : AllOpen ciphers root.key ((p.tree.last + 1, root.family.wrapped) ∷ []) =
+      All-cons (λ entry. is_some (ciphers.opens entry.1 root.key) ≡ true) (p.tree.last + 1, root.family.wrapped) [] is.opens (All-nil _) in
+      let genuine : IsGenuine ciphers p (commands.Create name opts) facts = record {
+        owned = tt;
+        families = ap (λ wrapped. map (λ entry. entry.0) wrapped) is.written ∙ sym (ap (λ b. cond b ((p.tree.last + 1) ∷ []) []) is_encrypted);
+        opened = subst (λ (k : List ℕ). AllOpen ciphers k facts.wrapped) (sym key) (subst (λ (w : List (ℕ × List ℕ)). AllOpen ciphers root.key w) (sym is.written) one);
+      } in
+      subst (λ (s : Stepped). Sound ciphers s.state) root_step (create_keeps ciphers p name opts facts sound (inr genuine))
+
+  -- the state that the code makes is the step's
+  pub made_state : (id : ℕ) (tree : Datasets) (roots : List (ℕ × Props)) (wrapped : List (ℕ × Stored)) (loaded : List (ℕ × List ℕ)) → id ≡ p.tree.last + 1 → tree ≡ with_row p.tree name Crypt 0
+      → roots ≡ with_id id root.props p.roots → wrapped ≡ with_id id (stored_of root.family) p.wrapped → loaded ≡ with_id id root.key p.loaded
+      → record p { tree = tree; roots = roots; wrapped = wrapped; loaded = loaded } ≡ created_with p name opts facts true true
+  made_state id tree roots wrapped loaded next tree_is roots_is wrapped_is loaded_is =
+      let roots_told : roots ≡ with_id (p.tree.last + 1) (new_props opts facts) p.roots = roots_is ∙ ap (λ i. with_id i root.props p.roots) next ∙ ap (λ v. with_id (p.tree.last + 1) v p.roots) (sym is.props) in
+      let wrapped_told : wrapped ≡ with_id (p.tree.last + 1) (new_stored (p.tree.last + 1) opts facts) p.wrapped =
+      wrapped_is ∙ ap (λ i. with_id i (stored_of root.family) p.wrapped) next ∙ ap (λ v. with_id (p.tree.last + 1) v p.wrapped) (sym is.stored) in
+      let loaded_told : loaded ≡ with_id (p.tree.last + 1) facts.key p.loaded = loaded_is ∙ ap (λ i. with_id i root.key p.loaded) next ∙ ap (λ v. with_id (p.tree.last + 1) v p.loaded) (sym is.key) in
+      rw (tree_is, roots_told, wrapped_told, loaded_told) refl
+
+  -- the new root's key opens its record
+  pub root_opens : Sound ciphers p → is_some (mkey ciphers (created_with p name opts facts true true) (p.tree.last + 1)) ≡ true
+  root_opens sound =
+      let made : Plain = created_with p name opts facts true true in
+      let id : ℕ = p.tree.last + 1 in
+      let row : Row = new_row p name true in
+      let made_sound : Sound ciphers made = root_sound sound in
+      let found : row_of id made.tree.rows ≡ Some row = row_of_new p.tree.last p.tree.rows row (recursion_from_All (λ (r : Row). r.id ≤ p.tree.last) p.tree.rows sound.tree.tree.given) (omega arith) in
+      let there : is_some (at_id id made.roots) ≡ true = ap (λ at. is_some at) (at_id-with_id id (new_props opts facts) p.roots) in
+      let owner : owner_of made id ≡ Some id = owner_of_root made.tree made.roots id row (made_sound.tree.tree, found) refl there in
+      let key : mkey ciphers made id ≡ ciphers.opens (new_stored id opts facts).wrapped facts.key =
+      mkey_by ciphers made id id (new_stored id opts facts) facts.key (at_id-with_id id (new_stored id opts facts) p.wrapped) owner (at_id-with_id id facts.key p.loaded) in
+      ap (λ m. is_some m) key ∙ ap (λ (s : Stored). is_some (ciphers.opens s.wrapped facts.key)) is.stored ∙ ap (λ (k : List ℕ). is_some (ciphers.opens root.family.wrapped k)) is.key ∙ is.opens

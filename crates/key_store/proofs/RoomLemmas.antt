@@ -1,0 +1,76 @@
+-- There are no more roots and loaded keys than datasets.
+use Rattle.std.proofs.Common.{◌≡◌, ◌⊎◌, ⊎_elim, ℕ, suc, ◌<◌, ◌≤◌, true, false, ◌==◌, List, [], ◌∷◌, length, get_or, Some, is_some, ap, arith}
+use Rattle.std.proofs.lemmas.Bool.Decides.{nat_tests}
+use Rattle.std.proofs.lemmas.List.Elements.{recursion_from_All}
+use Rattle.std.specs.List.{All, AllPairs, AllByRecursion}
+use Rattle.dataset_tree.specs.declared.tree.Row.{Row}
+use Rattle.dataset_tree.specs.Tree.{row_of}
+use Rattle.encryption_roots.specs.ById.{at_id}
+use Rattle.encryption_roots.proofs.ByIdLemmas.{Rises, rises}
+use Rattle.key_machine.specs.Plain.{Plain, Ciphers, is_root}
+use Rattle.key_machine.specs.Sound.{Sound, IsEncrypted}
+use Rattle.key_machine.proofs.KeyLists.{each_found}
+
+abbrev IsThere : List Row → ℕ → Type 0
+IsThere rows id = is_some (row_of id rows) ≡ true
+
+abbrev RowsRise : List Row → Type 0
+RowsRise [] = Unit {0}
+RowsRise (row ∷ rows) = AllByRecursion (λ later. row.id < later.id) rows × RowsRise rows
+
+rows_rise : (rows : List Row) → AllPairs (λ earlier later. earlier.id < later.id) rows → RowsRise rows
+rows_rise [] ordered = tt
+rows_rise (row ∷ rows) ordered =
+    (recursion_from_All (λ later. row.id < later.id) rows (λ k d within. ordered 0 (suc k) d (omega arith) (omega arith)), rows_rise rows (λ i j d before within. ordered (suc i) (suc j) d (omega arith) (omega arith)))
+
+-- a dataset that is among those above a number is above it
+above_there : (low id : ℕ) (rows : List Row) → AllByRecursion (λ later. low < later.id) rows → IsThere rows id → low < id
+above_there low id [] above there = absurd (cc)
+above_there low id (row ∷ rows) above there =
+    let cases : (((row.id == id) ≡ true) × (row.id ≡ id)) ⊎ ((row.id == id) ≡ false) = grind (arith, nat_tests) in
+    ⊎_elim (λ c. omega (arith, above.0, c.1)) (λ (c : (row.id == id) ≡ false). above_there low id rows above.1 (rw c at there)) cases
+
+module _ {X : Type 0} where
+  -- those above the first dataset are among the others
+  among_others : (row : Row) (rows : List Row) (entries : List (ℕ × X)) → AllByRecursion (λ entry. row.id < entry.0) entries → AllByRecursion (λ entry. IsThere (row ∷ rows) entry.0) entries
+      → AllByRecursion (λ entry. IsThere rows entry.0) entries
+  among_others row rows [] above there = tt
+  among_others row rows (entry ∷ entries) above there =
+      let lower : row.id < entry.0 = above.0 in
+      let other : (row.id == entry.0) ≡ false = grind (arith, nat_tests) in
+      (rw other at there.0, among_others row rows entries above.1 there.1)
+
+  all_above : (low high : ℕ) (entries : List (ℕ × X)) → low ≤ high → AllByRecursion (λ later. high < later.0) entries → AllByRecursion (λ later. low < later.0) entries
+  all_above low high [] le all = tt
+  all_above low high (entry ∷ entries) le all = (omega (arith, all.0), all_above low high entries le all.1)
+
+  fewer : (rows : List Row) (entries : List (ℕ × X)) → RowsRise rows → Rises entries → AllByRecursion (λ entry. IsThere rows entry.0) entries → length entries ≤ length rows
+  fewer [] [] ordered rising there = omega arith
+  fewer [] (entry ∷ entries) ordered rising there = absurd (let none : false ≡ true = there.0 in cc)
+  fewer (row ∷ rows) [] ordered rising there = omega arith
+  fewer (row ∷ rows) (entry ∷ entries) ordered rising there =
+      let cases : (((row.id == entry.0) ≡ true) × (row.id ≡ entry.0)) ⊎ ((row.id == entry.0) ≡ false) = grind (arith, nat_tests) in
+      ⊎_elim
+      (λ c.
+      let rest : length entries ≤ length rows = fewer rows entries ordered.1 rising.1 (among_others row rows entries (all_above row.id entry.0 entries (omega (arith, c.1)) rising.0) there.1) in
+      omega (arith, rest))
+      (λ (c : (row.id == entry.0) ≡ false).
+      let higher : row.id < entry.0 = above_there row.id entry.0 rows ordered.0 (rw c at there.0) in
+      let rest : length (entry ∷ entries) ≤ length rows =
+      fewer rows (entry ∷ entries) ordered.1 rising (among_others row rows (entry ∷ entries) (higher, all_above row.id entry.0 entries (omega (arith, higher)) rising.0) there) in
+      omega (arith, rest)) cases
+
+module _ (c : Ciphers) (p : Plain) (sound : Sound c p) where
+  there : (id : ℕ) → is_root p id ≡ true → IsThere p.tree.rows id
+  there id root = let encrypted : IsEncrypted p id = sound.tree.roots_encrypted id root in ap (λ found. is_some found) encrypted.1
+
+  pub roots_fit : length p.roots ≤ length p.tree.rows
+  roots_fit =
+      let found : All (λ entry. at_id entry.0 p.roots ≡ Some entry.1) p.roots = each_found p.roots sound.tree.roots in
+      fewer p.tree.rows p.roots (rows_rise p.tree.rows sound.tree.tree.rising) (rises p.roots sound.tree.roots)
+      (recursion_from_All (λ entry. IsThere p.tree.rows entry.0) p.roots (λ k d within. there (get_or p.roots k d).0 (ap (λ at. is_some at) (found k d within))))
+
+  pub loaded_fit : length p.loaded ≤ length p.tree.rows
+  loaded_fit =
+      fewer p.tree.rows p.loaded (rows_rise p.tree.rows sound.tree.tree.rising) (rises p.loaded sound.keys.loaded)
+      (recursion_from_All (λ entry. IsThere p.tree.rows entry.0) p.loaded (λ k d within. there (get_or p.loaded k d).0 (sound.keys.roots k d within)))

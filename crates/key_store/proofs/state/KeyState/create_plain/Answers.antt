@@ -1,0 +1,30 @@
+use Rattle.std.proofs.Common.{◌≡◌, None, sym, subst}
+use Rattle.dataset_tree.specs.declared.kinds.Kind.TheVariants.{Plain as PlainKind}
+use Rattle.dataset_tree.specs.Tree.{Datasets, with_row}
+use Rattle.encryption_roots.specs.declared.command.KeyCmd.TheVariants as commands
+use Rattle.key_machine.specs.Plain.{Plain}
+use Rattle.key_machine.specs.Refusals.{refusal_of}
+use Rattle.key_machine.specs.Sound.{Sound}
+use Rattle.key_store.specs.Ciphers.{ciphers}
+use Rattle.key_store.specs.State.{plain_of}
+use Rattle.key_store.proofs.CreateLemmas.{free, given_id, plain_sound}
+use Rattle.key_store.proofs.state.KeyState.create_plain.Goals as goal
+
+pub add_free-requires : goal.add_free-requires
+add_free-requires c =
+    let before : Plain = plain_of c.self.inside in
+    let accepted : refusal_of before (commands.Create c.args.name.now c.args.opts.now) ≡ None = subst (λ (p : Plain). refusal_of p (commands.Create c.args.name.now c.args.opts.now) ≡ None) (sym c.self.view_is) c.requires.accepted in
+    given_id before c.args.name.now c.args.opts.now (free before c.args.name.now c.args.opts.now accepted)
+
+pub invariant_of-self-2 : goal.invariant_of-self-2
+invariant_of-self-2 c =
+    let before : Plain = plain_of c.self.inside in
+    let accepted : refusal_of before (commands.Create c.args.name.now c.args.opts.now) ≡ None = subst (λ (p : Plain). refusal_of p (commands.Create c.args.name.now c.args.opts.now) ≡ None) (sym c.self.view_is) c.requires.accepted in
+    let sound : Sound ciphers (record before { tree = with_row before.tree c.args.name.now PlainKind 0 }) = plain_sound before c.args.name.now c.args.opts.now accepted c.requires.plain c.self.invariant.sound in
+    record {
+      sound = subst (λ (t : Datasets). Sound ciphers (record before { tree = t })) (sym c.in_ok-id.ensures.added) sound;
+      records = c.self.invariant.records;
+      sizes = c.self.invariant.sizes;
+      props = c.self.invariant.props;
+      room = record { records = c.self.invariant.room.records; loaded = c.self.invariant.room.loaded };
+    }

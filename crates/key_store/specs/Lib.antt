@@ -1,0 +1,4 @@
+pub mod Ciphers
+pub mod State
+pub mod Calls
+pub mod NewRoot

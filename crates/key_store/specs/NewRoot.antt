@@ -1,0 +1,33 @@
+-- A new encryption root, as the material of its command tells it.
+use Rattle.std.specs.Prelude.{◌≡◌, ℕ, ◌+◌, ◌∷◌, [], true, is_some, Result, Ok, Err}
+use Rattle.std.specs.declared.option.Option.TheVariants.{Some, None}
+use Rattle.dataset_tree.specs.declared.refusal.Stop.{Stop}
+use Rattle.dataset_tree.specs.declared.refusal.Stop.TheVariants as stops
+use Rattle.encryption_roots.specs.declared.props.Options.{Options}
+use Rattle.encryption_roots.specs.Props.{KeepsIterations}
+use Rattle.encryption_roots.specs.RecordSize.{IsRecordSize}
+use Rattle.wrapped_keys.specs.Stored.{parsed_record}
+use Rattle.key_machine.specs.Told.{Told}
+use Rattle.key_machine.specs.Step.{new_props, new_stored}
+use Rattle.key_store.specs.declared.create.NewRoot.{NewRoot}
+use Rattle.key_store.specs.Ciphers.{ciphers}
+use Rattle.key_store.specs.State.{stored_of}
+
+-- What is told is no fault, and is this root, behind the last id: its key, its record, which opens, and its properties, all in form.
+pub record IsToldRoot (last : ℕ) (opts : Options) (facts : Told) (root : NewRoot) : Type 0 where
+  pub no_fault : facts.fault ≡ None
+  pub none_wrong : facts.wrong ≡ None
+  pub key : facts.key ≡ root.key
+  pub props : new_props opts facts ≡ root.props
+  pub written : facts.wrapped ≡ (last + 1, root.family.wrapped) ∷ []
+  pub stored : new_stored (last + 1) opts facts ≡ stored_of root.family
+  pub opens : is_some (ciphers.opens root.family.wrapped root.key) ≡ true
+  pub in_form : is_some (parsed_record root.family.wrapped) ≡ true
+  pub size : IsRecordSize root.family.block
+  pub kept : KeepsIterations root.props
+
+-- What is told is the fault that a call answers.
+abbrev pub TellsFault : {T : Type 0} → Told → Result T Stop → Type 0
+TellsFault facts (Ok _) = Unit {0}
+TellsFault facts (Err (stops.Refused why)) = facts.fault ≡ Some why
+TellsFault facts (Err stops.NoMemory) = Unit {0}

@@ -1,0 +1,43 @@
+-- The plain state that a keystore's fields show, and what the fields keep.
+use Rattle.std.specs.Prelude.{◌≡◌, ℕ, ◌≤◌, List, [], map, replicate, vec_capacity, is_some, true}
+use Rattle.std.specs.List.{All}
+use Rattle.encryption_roots.specs.Props.{KeepsIterations}
+use Rattle.encryption_roots.specs.RecordSize.{IsRecordSize}
+use Rattle.wrapped_keys.specs.Stored.{parsed_record}
+use Rattle.key_machine.specs.Plain.{Plain, Stored}
+use Rattle.key_machine.specs.Sound.{Sound}
+use Rattle.key_store.specs.declared.state.FamilyRecord.{FamilyRecord}
+use Rattle.key_store.specs.declared.state.KeyState.TheInside.{Inside}
+use Rattle.key_store.specs.Ciphers.{ciphers}
+
+abbrev pub stored_of : FamilyRecord → Stored
+stored_of family = record { wrapped = family.wrapped; block = family.block }
+
+abbrev pub stored_records : List (ℕ × FamilyRecord) → List (ℕ × Stored)
+stored_records records = map (λ entry. (entry.0, stored_of entry.1)) records
+
+-- Nothing is mapped yet.
+abbrev pub plain_of : Inside → Plain
+plain_of s = record {
+  tree = s.tree;
+  roots = s.roots;
+  wrapped = stored_records s.records.items;
+  loaded = s.loaded.items;
+  gens = replicate 256 0;
+  mapped = [];
+  mounted = [];
+  users = [];
+}
+
+-- There is room for 32 records and 256 loaded keys.
+pub record HasRoom (s : Inside) : Type 0 where
+  pub records : 32 ≤ vec_capacity s.records
+  pub loaded : 256 ≤ vec_capacity s.loaded
+
+-- The plain state is sound; its records, its record sizes and the properties of its roots are in form; and there is room.
+pub record IsKept (s : Inside) : Type 0 where
+  pub sound : Sound ciphers (plain_of s)
+  pub records : All (λ entry. is_some (parsed_record entry.1.wrapped) ≡ true) s.records.items
+  pub sizes : All (λ entry. IsRecordSize entry.1.block) s.records.items
+  pub props : All (λ entry. KeepsIterations entry.1) s.roots
+  pub room : HasRoom s

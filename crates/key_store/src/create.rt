@@ -1,0 +1,215 @@
+// New datasets.
+ghost use Rattle.std.specs.Prelude.{◌≡◌, ◌<◌, ◌≤◌, ◌+◌, true, false, length, vec_capacity, unwrap_or, is_some, Some, None, IfOk, IfSome, OnOk, OnErr};
+ghost use Rattle.dataset_tree.specs.Tree.{new_id, with_row};
+ghost use Rattle.encryption_roots.specs.ById.{IsRisingById, with_id};
+ghost use Rattle.encryption_roots.specs.RecordSize.{IsRecordSize};
+ghost use Rattle.encryption_roots.specs.declared.command.KeyCmd.TheVariants as commands;
+ghost use Rattle.key_machine.specs.Plain.{mkey};
+ghost use Rattle.key_machine.specs.Needs.{parent_row};
+ghost use Rattle.key_machine.specs.Refusals.{refusal_of, are_bad_iterations};
+ghost use Rattle.key_machine.specs.Told.{new_suite, parent_suite, new_iters, new_salt, seeded_record, told};
+ghost use Rattle.key_machine.specs.Fair.{Suffices};
+ghost use Rattle.key_store.specs.Ciphers.{ciphers};
+ghost use Rattle.key_store.specs.Calls.{stepped, state_after, AnswersMade};
+ghost use Rattle.key_store.specs.NewRoot.{IsToldRoot, TellsFault};
+ghost use Rattle.encryption_roots.specs.Props.{KeepsIterations};
+ghost use Rattle.encryption_roots.specs.declared.props.Location.{Location};
+ghost use Rattle.wrapped_keys.specs.Stored.{parsed_record};
+
+use crate::material::fetched_key;
+use crate::needs::{is_passphrase, place_or_prompt};
+use crate::seeds::{first_vector, seeded_master, seeded_salt};
+use crate::state::{FamilyRecord, KeyState};
+use dataset_tree::{Format, Kind, NoMemory, RecordBytes, Refusal, SetName, Stop, Suite, Tree};
+use encryption_roots::{LineKit, Options, Props, SeedGot, put_at_id};
+use salt_rotation::SeedWords;
+use std::alloc::AllocError;
+use wrapped_keys::wrap;
+
+/// The record size where the options have none, in bytes.
+const DEFAULT_RECORD_SIZE: u32 = 131_072;
+
+/// The iterations of PBKDF2 where the options have none.
+const DEFAULT_ITERATIONS: u64 = 350_000;
+
+/// What makes a dataset an encryption root.
+#[derive(Drop)]
+pub(crate) struct NewRoot {
+    pub(crate) props: Props,
+    pub(crate) family: FamilyRecord,
+    pub(crate) key: [u8; 32],
+}
+
+impl KeyState {
+    /// Makes a dataset and gives its id: an encryption root where the options have a key format, else a plain dataset. A
+    /// root's key is loaded, and opens its record.
+    ///
+    /// # Errors
+    /// Those of `needs`, then `KeyFileMissing` or `KeyFault` at the fetch, `BadMaterial`, and `EntropyFault`. After an `Err`
+    /// all is as before.
+    pub fn create(&mut self, name: &SetName, opts: &Options, kit: &LineKit) -> Result<u32, Stop>
+        requires record_size { IfSome opts.now.block IsRecordSize }
+        requires fetched { Suffices self.old (commands.Create name.now opts.now) kit.now }
+        ensures reply { AnswersMade result (stepped self.old (commands.Create name.now opts.now) kit.now).reply }
+        ensures state { self.new ≡ state_after result self.old (stepped self.old (commands.Create name.now opts.now) kit.now).state }
+        ensures opens { IfOk result (λ id. is_some opts.now.format ≡ true → is_some (mkey ciphers self.new id) ≡ true) }
+        ensures unchanged { OnErr result (self.new ≡ self.old) }
+    {
+        if let Some(why) = self.create_refusal(name, opts) {
+            return Err(Stop::Refused(why));
+        }
+        match opts.format {
+            None => self.create_plain(name, opts, kit),
+            Some(format) => self.create_root(name, opts, format, kit),
+        }
+    }
+
+    /// Makes a plain dataset.
+    fn create_plain(&mut self, name: &SetName, opts: &Options, kit: &LineKit) -> Result<u32, Stop>
+        requires accepted { refusal_of self.old (commands.Create name.now opts.now) ≡ None }
+        requires plain { opts.now.format ≡ None }
+        ensures reply { AnswersMade result (stepped self.old (commands.Create name.now opts.now) kit.now).reply }
+        ensures state { self.new ≡ state_after result self.old (stepped self.old (commands.Create name.now opts.now) kit.now).state }
+        ensures unchanged { OnErr result (self.new ≡ self.old) }
+    {
+        let id = add_free(&mut self.tree, name, Kind::Plain)?;
+        Ok(id)
+    }
+
+    /// Makes an encryption root.
+    fn create_root(
+        &mut self,
+        name: &SetName,
+        opts: &Options,
+        format: Format,
+        kit: &LineKit,
+    ) -> Result<u32, Stop>
+        requires accepted { refusal_of self.old (commands.Create name.now opts.now) ≡ None }
+        requires root { opts.now.format ≡ Some format }
+        requires record_size { IfSome opts.now.block IsRecordSize }
+        requires fetched { Suffices self.old (commands.Create name.now opts.now) kit.now }
+        ensures reply { AnswersMade result (stepped self.old (commands.Create name.now opts.now) kit.now).reply }
+        ensures state { self.new ≡ state_after result self.old (stepped self.old (commands.Create name.now opts.now) kit.now).state }
+        ensures opens { IfOk result (λ id. is_some (mkey ciphers self.new id) ≡ true) }
+        ensures unchanged { OnErr result (self.new ≡ self.old) }
+    {
+        let root = self.new_root(name, opts, format, kit)?;
+        let id = add_free(&mut self.tree, name, Kind::Crypt)?;
+        if self.roots.insert(id, root.props).is_err() {
+            unreachable!();
+        }
+        put_with_room(&mut self.records, id, root.family);
+        put_with_room(&mut self.loaded, id, root.key);
+        Ok(id)
+    }
+
+    /// What the material and the seed of a line make of a new root.
+    fn new_root(
+        &self,
+        name: &SetName,
+        opts: &Options,
+        format: Format,
+        kit: &LineKit,
+    ) -> Result<NewRoot, Stop>
+        requires accepted { refusal_of self.now (commands.Create name.now opts.now) ≡ None }
+        requires root { opts.now.format ≡ Some format }
+        requires record_size { IfSome opts.now.block IsRecordSize }
+        requires fetched { Suffices self.now (commands.Create name.now opts.now) kit.now }
+        ensures root { IfOk result (λ root. IsToldRoot self.now.tree.last opts.now (told ciphers self.now (commands.Create name.now opts.now) kit.now) root) }
+        ensures fault { TellsFault (told ciphers self.now (commands.Create name.now opts.now) kit.now) result }
+    {
+        let key = match fetched_key(format, &kit.new_key) {
+            Ok(key) => key,
+            Err(why) => return Err(Stop::Refused(why)),
+        };
+        let SeedGot::Got(seed) = kit.seed else {
+            return Err(Stop::Refused(Refusal::EntropyFault));
+        };
+        let seed = SeedWords::new(seed);
+        let props = new_props(format, opts, &seed)?;
+        let wrapped = sealed_record(&seed, self.new_suite(name, opts), &key);
+        let block = opts.block.unwrap_or(DEFAULT_RECORD_SIZE);
+        Ok(NewRoot {
+            props,
+            family: FamilyRecord { wrapped, block },
+            key,
+        })
+    }
+
+    /// The suite of a new encrypted dataset: that of the options, else the parent's, else aes-256-gcm.
+    fn new_suite(&self, name: &SetName, opts: &Options) -> Suite
+        ensures { result ≡ new_suite self.now name.now opts.now }
+    {
+        match opts.suite {
+            Some(suite) => suite,
+            None => self.parent_suite(name).unwrap_or(Suite::Aes256Gcm),
+        }
+    }
+
+    fn parent_suite(&self, name: &SetName) -> Option<Suite>
+        ensures { result ≡ parent_suite self.now (parent_row self.now name.now) }
+    {
+        let parent = self.parent_row(name)?;
+        self.suite_of(parent.id)
+    }
+}
+
+/// The properties of a new root.
+fn new_props(format: Format, opts: &Options, seed: &SeedWords) -> Result<Props, NoMemory>
+    requires root { opts.now.format ≡ Some format }
+    requires iterations { are_bad_iterations opts.now.iters ≡ false }
+    ensures props { IfOk result (λ props. props ≡ record { format = format; place = unwrap_or opts.now.place Location.Prompt; iters = new_iters opts.now; salt = new_salt ciphers opts.now seed.now }) }
+    ensures kept { IfOk result KeepsIterations }
+{
+    let place = place_or_prompt(opts.place.as_ref())?;
+    let (iters, salt) = match format {
+        Format::Raw | Format::Hex => (0, 0),
+        Format::Passphrase => (
+            opts.iters.unwrap_or(DEFAULT_ITERATIONS) as u32,
+            seeded_salt(seed),
+        ),
+    };
+    Ok(Props {
+        format,
+        place,
+        iters,
+        salt,
+    })
+}
+
+/// The stored record of the master key that a seed makes, under a wrapping key.
+fn sealed_record(seed: &SeedWords, suite: Suite, key: &[u8; 32]) -> RecordBytes
+    ensures sealed { result ≡ seeded_record ciphers suite seed.now key.now }
+    ensures opens { is_some (ciphers.opens result key.now) ≡ true }
+    ensures in_form { is_some (parsed_record result) ≡ true }
+{
+    let master = seeded_master(seed, suite);
+    wrap(&master, key, first_vector(seed)).to_bytes()
+}
+
+/// Adds a dataset that nothing refuses.
+fn add_free(tree: &mut Tree, name: &SetName, kind: Kind) -> Result<u32, NoMemory>
+    requires { new_id tree.old name.now ≡ Ok (tree.old.last + 1) }
+    ensures id { IfOk result (λ id. id ≡ tree.old.last + 1) }
+    ensures added { OnOk result (tree.new ≡ with_row tree.old name.now kind 0) }
+    ensures same { OnErr result (tree.new ≡ tree.old) }
+{
+    match tree.add(name, kind, 0) {
+        Ok(id) => Ok(id),
+        Err(Stop::NoMemory) => Err(AllocError),
+        Err(Stop::Refused(_)) => unreachable!(),
+    }
+}
+
+/// Sets the value at this id, for which there is room.
+fn put_with_room<X: Drop>(entries: &mut Vec<(u32, X)>, id: u32, value: X)
+    requires rising { IsRisingById entries.old.items }
+    requires room { length entries.old.items < vec_capacity entries.old }
+    ensures put { entries.new.items ≡ with_id id value entries.old.items }
+    ensures rising { IsRisingById entries.new.items }
+    ensures room { vec_capacity entries.old ≤ vec_capacity entries.new }
+{
+    if put_at_id(entries, id, value).is_err() {
+        unreachable!();
+    }
+}

@@ -1,0 +1,22 @@
+//! The keystore: a host's datasets with their encryption roots, key records and loaded wrapping keys.
+//!
+//! Contracts see a `KeyState` as the plain state of `key_machine`, and each command is the machine's step under what the
+//! line's material tells. A state is sound, whatever commands it went through.
+#![tactic(auto)]
+
+mod create;
+mod laws;
+mod load;
+mod lookup;
+mod material;
+mod needs;
+mod property;
+mod seeds;
+mod state;
+
+pub use laws::{commands_keep_soundness, what_a_kit_tells_is_fair};
+pub use needs::Needs;
+pub use state::KeyState;
+
+#[cfg(test)]
+mod tests;

@@ -1,0 +1,116 @@
+// Loads and unloads.
+ghost use Rattle.std.specs.Prelude.{◌≡◌, ℕ, is_some, Some, None, OnOk, OnErr};
+ghost use Rattle.dataset_tree.specs.Tree.{id_named};
+ghost use Rattle.encryption_roots.specs.ById.{without_id};
+ghost use Rattle.encryption_roots.specs.declared.command.KeyCmd.TheVariants as commands;
+ghost use Rattle.key_machine.specs.Plain.{owned, owner_of, is_same};
+ghost use Rattle.key_machine.specs.Told.{first_wrong, told_load_of, nothing_told};
+ghost use Rattle.key_machine.specs.Step.{step};
+ghost use Rattle.key_store.specs.Ciphers.{ciphers};
+ghost use Rattle.key_store.specs.Calls.{stepped, state_after, AnswersDone, AnswersUnloaded, key_told, is_wrong};
+ghost use Rattle.std.specs.List.{find};
+ghost use Rattle.std.specs.Option.{option_copied};
+
+use crate::material::fetched_key;
+use crate::state::{FamilyRecord, KeyState};
+use dataset_tree::{RecordBytes, Refusal, SetName, Stop};
+use encryption_roots::{LineKit, Props, owner_of, put_at_id, remove_at_id};
+use wrapped_keys::{KeyRecord, unwrap};
+
+impl KeyState {
+    /// Loads the key of a root, where every record that the root owns opens under it. With `check_only` nothing changes.
+    ///
+    /// # Errors
+    /// `NoSuch`, `NotEncrypted`, `NotRoot`, `KeyLoaded` (not with `check_only`), `KeyFileMissing` or `KeyFault` at the fetch,
+    /// `BadMaterial`, and `WrongKey` of the first record, by id, that doesn't open. After an `Err` all is as before.
+    pub fn load(&mut self, name: &SetName, check_only: bool, kit: &LineKit) -> Result<(), Stop>
+        ensures reply { AnswersDone result (stepped self.old (commands.Load name.now check_only None) kit.now).reply }
+        ensures state { self.new ≡ state_after result self.old (stepped self.old (commands.Load name.now check_only None) kit.now).state }
+        ensures unchanged { OnErr result (self.new ≡ self.old) }
+    {
+        if let Some(why) = self.load_refusal(name, check_only) {
+            return Err(Stop::Refused(why));
+        }
+        let Some(root) = self.tree.find(name) else {
+            return Err(Stop::Refused(Refusal::NoSuch));
+        };
+        let Some(props) = self.roots.get(root) else {
+            return Err(Stop::Refused(Refusal::NotRoot));
+        };
+        let key = match self.root_key(root, props, kit) {
+            Ok(key) => key,
+            Err(why) => return Err(Stop::Refused(why)),
+        };
+        if !check_only {
+            put_at_id(&mut self.loaded, root, key)?;
+        }
+        Ok(())
+    }
+
+    /// The key that a root's material gives, where it opens each record that the root owns.
+    fn root_key(&self, root: u32, props: &Props, kit: &LineKit) -> Result<[u8; 32], Refusal>
+        ensures { result ≡ key_told (told_load_of ciphers self.now kit.now root (Some props.now)) }
+    {
+        let key = fetched_key(props.format, &kit.new_key)?;
+        if let Some(dataset) = self.first_wrong(root, &key) {
+            return Err(Refusal::WrongKey { dataset });
+        }
+        Ok(key)
+    }
+
+    /// The first family of a root whose record doesn't open under the key.
+    fn first_wrong(&self, root: u32, key: &[u8; 32]) -> Option<u32>
+        ensures { result ≡ first_wrong ciphers key.now (owned self.now root) }
+    {
+        let wrong = self.first_wrong_in(self.records.as_slice(), root, key)?;
+        Some(wrong.0)
+    }
+
+    fn first_wrong_in<'a>(
+        &self,
+        records: &'a [(u32, FamilyRecord)],
+        root: u32,
+        key: &[u8; 32],
+    ) -> Option<&'a (u32, FamilyRecord)>
+        ensures { option_copied result ≡ find (λ entry. is_wrong self.now root key.now entry) records.now }
+    {
+        records.iter().find(|entry| self.owns(root, entry.0) && !opens(&entry.1.wrapped, key))
+    }
+
+    /// Whether the root owns the family's record.
+    fn owns(&self, root: u32, family: u32) -> bool
+        ensures { result ≡ is_same root (owner_of self.now family) }
+    {
+        owner_of(&self.tree, &self.roots, family) == Some(root)
+    }
+
+    /// Drops the loaded key of a root, and changes nothing else.
+    ///
+    /// # Errors
+    /// `NoSuch`, `NotEncrypted`, `NotRoot`, and `KeyUnavailable` where the key isn't loaded. Then all is as before.
+    pub fn unload(&mut self, name: &SetName) -> Result<(), Refusal>
+        ensures reply { AnswersUnloaded result (step self.old (commands.Unload name.now) nothing_told).reply }
+        ensures state { self.new ≡ (step self.old (commands.Unload name.now) nothing_told).state }
+        ensures key_alone { OnOk result ((root : ℕ) → id_named name.now self.old.tree.rows ≡ Some root → self.new ≡ record self.old { loaded = without_id root self.old.loaded }) }
+        ensures unchanged { OnErr result (self.new ≡ self.old) }
+    {
+        if let Some(why) = self.unload_refusal(name) {
+            return Err(why);
+        }
+        let Some(root) = self.tree.find(name) else {
+            return Err(Refusal::NoSuch);
+        };
+        remove_at_id(&mut self.loaded, root);
+        Ok(())
+    }
+}
+
+/// Whether a stored record opens under the key.
+fn opens(stored: &RecordBytes, key: &[u8; 32]) -> bool
+    ensures { result ≡ is_some (ciphers.opens stored.now key.now) }
+{
+    match KeyRecord::from_bytes(stored) {
+        None => false,
+        Some(record) => unwrap(&record, key).is_ok(),
+    }
+}
