@@ -3,3 +3,5 @@ pub mod Told
 pub mod Lines
 pub mod LineEnds
 pub mod Memory
+pub mod KeyFiles
+pub mod Entropy

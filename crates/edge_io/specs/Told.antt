@@ -1,9 +1,9 @@
--- Bytes of the outside, where they are told: `None` tells nothing.
+-- What the outside holds, where it is told: `None` tells nothing.
 use Rattle.std.specs.Prelude.{◌≡◌, ℕ, List, ◌++◌, ⊤, None, Some}
 use Rattle.std.specs.declared.option.Option.{Option}
 
 -- what is still told is what was told before
-abbrev pub StillTold : Option (List ℕ) → Option (List ℕ) → Type 0
+abbrev pub StillTold : {A : Type 0} → Option A → Option A → Type 0
 StillTold None now = ⊤
 StillTold (Some before) None = ⊤
 StillTold (Some before) (Some now) = now ≡ before

@@ -1,60 +1,13 @@
 // Sources and sinks in memory, whose calls fail where a list says so.
-ghost use Rattle.std.specs.Prelude.{◌≡◌, ◌↔◌, ◌+◌, ◌-◌, ◌<◌, ◌≤◌, ◌⊎◌, ℕ, [], List, Some, ⊤, min, length, take, is_err, if◌then◌else◌, IsTrue, IsErr, IfOk, IfSome, OnErr, OnOk, Contains};
+ghost use Rattle.std.specs.Prelude.{◌≡◌, ◌↔◌, ◌+◌, ◌<◌, ◌≤◌, [], Some, min, length, take, is_err, IsErr, IfOk, IfSome, OnErr, Contains};
 ghost use Rattle.std.specs.Io.KnownBytes.{Appends, Consumes};
 ghost use Rattle.edge_io.specs.Faults.{HasCause};
-ghost use Rattle.edge_io.specs.Memory.{CountsCall, one_more};
+ghost use Rattle.edge_io.specs.Memory.{CountsCall};
 ghost use Rattle.edge_io.specs.Told.{StillTold};
 
+use crate::calls::Calls;
 use crate::{Failed, Sink, Source};
 use std::marker::Model;
-
-// The calls of an object in memory: which of them fail, how many there were, and how many faults.
-#[derive(Drop)]
-struct Calls {
-    fails: Vec<u32>,
-    made: u64,
-    faults: u64,
-}
-
-impl Calls {
-    fn new(fails: Vec<u32>) -> Self
-        ensures fails { result.fails.items ≡ fails.items }
-        ensures made { result.made ≡ 0 }
-        ensures faults { result.faults ≡ 0 }
-    {
-        Calls {
-            fails,
-            made: 0,
-            faults: 0,
-        }
-    }
-
-    // Counts a call, and a fault where it is one of those that fail.
-    fn count(&mut self) -> Result<(), Failed>
-        ensures listed { IsErr result ↔ Contains self.old.fails.items self.old.made }
-        ensures made { self.new.made ≡ one_more self.old.made }
-        ensures fails { self.new.fails.items ≡ self.old.fails.items }
-        ensures faults { self.new.faults ≡ (if is_err result then one_more self.old.faults else self.old.faults) }
-        ensures grows { self.old.faults ≤ self.new.faults }
-    {
-        let made = self.made;
-        self.made = made.saturating_add(1);
-        if self.fails.iter().any(|&number| u64::from(number) == made) {
-            self.count_fault();
-            return Err(Failed);
-        }
-        Ok(())
-    }
-
-    fn count_fault(&mut self)
-        ensures faults { self.new.faults ≡ one_more self.old.faults }
-        ensures grows { self.old.faults ≤ self.new.faults }
-        ensures fails { self.new.fails.items ≡ self.old.fails.items }
-        ensures made { self.new.made ≡ self.old.made }
-    {
-        self.faults = self.faults.saturating_add(1);
-    }
-}
 
 /// A source of bytes in memory, whose calls with a number in a list fail.
 #[derive(Drop)]

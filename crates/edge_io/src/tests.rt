@@ -1,8 +1,9 @@
-// Cuts and faults that no clause of a source rules in or out.
+// Cuts and faults that no clause of a source rules in or out, and the files of the system.
 ghost use Rattle.std.specs.Prelude.{None};
 
 use crate::{
-    Failed, LineError, LineReader, MAX_LINE, MemSink, MemSource, Reading, Sink, Source, Writing,
+    Entropy, Failed, FetchError, KeyFiles, LineError, LineReader, MAX_LINE, MemEntropy,
+    MemKeyFiles, MemSink, MemSource, Reading, Sink, Source, SystemEntropy, SystemKeyFiles, Writing,
 };
 use std::alloc::Global;
 use std::io;
@@ -125,5 +126,59 @@ fn readers_and_writers_of_std_pass_through(rt: HostRuntime) -> Result<(), Fail> 
     let mut sink = Writing::new(rt.stdout());
     assert_eq!(rt; sink.write(b"\n")?, 1);
     assert_eq!(rt; Writing::new(Full).write(b"x"), Err(Failed));
+    Ok(())
+}
+
+#[test]
+fn key_files_are_fetched_by_path(rt: HostRuntime) -> Result<(), Fail> {
+    let alloc = rt.alloc();
+    let mut files = Vec::new(alloc);
+    files.push((
+        String::from_str(alloc, "/keys/long")?,
+        vec![in alloc; 7; 1025]?,
+    ))?;
+    files.push((String::from_str(alloc, "/keys/short")?, vec![in alloc; 8]?))?;
+    let mut key_files = MemKeyFiles::new(files, vec![in alloc; 0]?);
+    assert!(rt; key_files.fetch(alloc, "/keys/short") == Err(FetchError::Failed));
+    assert_eq!(rt;
+        key_files.fetch(alloc, "/keys/short")?.as_slice(),
+        [8].as_slice()
+    );
+    assert_eq!(rt; key_files.fetch(alloc, "/keys/long")?.len(), 1024);
+    assert!(rt; key_files.fetch(alloc, "/keys") == Err(FetchError::Missing));
+    Ok(())
+}
+
+#[test]
+fn entropy_that_runs_short_keeps_its_bytes(rt: HostRuntime) -> Result<(), Fail> {
+    let alloc = rt.alloc();
+    let mut bytes = vec![in alloc; 1; 32]?;
+    bytes.extend_from_slice(&[2; 31])?;
+    let mut entropy = MemEntropy::new(bytes, vec![in alloc; 0]?);
+    let mut out = [0; 32];
+    assert_eq!(rt; entropy.fill(&mut out), Err(Failed));
+    assert_eq!(rt; out, [0; 32]);
+    entropy.fill(&mut out)?;
+    assert_eq!(rt; out, [1; 32]);
+    assert_eq!(rt; entropy.fill(&mut out), Err(Failed));
+    assert_eq!(rt; out, [1; 32]);
+    Ok(())
+}
+
+#[test]
+fn files_of_the_system(rt: HostRuntime) -> Result<(), Fail> {
+    let alloc = rt.alloc();
+    let mut key_files = SystemKeyFiles::new(&rt);
+    assert!(rt; key_files.fetch(alloc, "/no/such/key") == Err(FetchError::Missing));
+    assert_eq!(rt;
+        key_files.fetch(alloc, "/dev/zero")?.as_slice(),
+        [0; 1024].as_slice()
+    );
+    assert!(rt; key_files.fetch(alloc, "/dev") == Err(FetchError::Failed));
+
+    let mut entropy = SystemEntropy::new(&rt);
+    let mut out = [0; 32];
+    entropy.fill(&mut out)?;
+    assert!(rt; out != [0; 32]);
     Ok(())
 }

@@ -1,0 +1,27 @@
+// Where key files come from.
+ghost use Rattle.std.specs.Prelude.{◌≤◌, ℕ, List, length, IfOk, IfSome};
+ghost use Rattle.std.specs.declared.option.Option.{Option};
+ghost use Rattle.edge_io.specs.KeyFiles.{FetchCounts, FetchGives, FetchKeeps, fetched};
+
+use crate::FetchError;
+use std::alloc::Global;
+
+/// The most bytes of a key file that are fetched.
+pub const MAX_KEY_FILE: usize = 1024;
+
+/// Key files by path, which count their faults.
+pub trait KeyFiles {
+    /// Each file with its path, where they are told: of several files of one path the first counts.
+    ghost files: { Self → Option (List (List ℕ × List ℕ)) };
+
+    /// How often they have failed.
+    ghost faults: { Self → ℕ };
+
+    /// Gives the first 1024 bytes of the file at a path, of a shorter file all, and `Missing` where no file has
+    /// this path. No answer changes a file.
+    fn fetch(&mut self, alloc: Global, path: &str) -> Result<Vec<u8>, FetchError>
+        ensures gives { IfSome (files self.old) (λ files. FetchGives result (fetched path.now files)) }
+        ensures short { IfOk result (λ bytes. length bytes.items ≤ MAX_KEY_FILE) }
+        ensures told { FetchKeeps (files self.old) (files self.new) result }
+        ensures cause { FetchCounts (faults self.old) (faults self.new) result };
+}
