@@ -1,113 +1,107 @@
 -- What `line_of` gives, by the language's table.
-use Rattle.std.proofs.Common.{◌⊎◌, ◌≡◌, ◌≢◌, eqb, ltb, not, Some, None, get_or, ℕ, ◌<◌, inl, inr, true, false, List, [], ◌∷◌, ◌++◌, length, Result, Ok, Err, refl, ap, sym, ◌∙◌, arith, subst}
-use Rattle.std.specs.Str.{bytes_eq}
+use Rattle.std.proofs.Common.{◌⊎◌, ◌≡◌, ◌≢◌, eqb, ltb, not, ◌||◌, is_some, Option, Some, None, get_or, ℕ, ◌<◌, inl, inr, true, false, List, [], ◌∷◌, ◌++◌, length, Result, Ok, Err, refl, ap, sym, ◌∙◌, arith, subst}
 use Rattle.std.proofs.lemmas.List.{append_assoc, append-nil}
-use Rattle.std.proofs.lemmas.Slice.Eq.{bytes_eq-Decides}
 use Rattle.std.specs.List.{position_or_len}
 use Rattle.std.proofs.lemmas.List.Sums.{position_or_len_is}
 use Rattle.std.proofs.lemmas.Bool.Decides.{nat_tests, leb_tells, eqb_tells}
 use lib.Chars.{codes}
+use Rattle.dataset_tree.specs.declared.kinds.Format.{Format}
+use Rattle.encryption_roots.specs.declared.props.Location.{Location}
+use Rattle.encryption_roots.specs.declared.props.Prop.{Prop}
+use Rattle.encryption_roots.specs.declared.props.Prop.TheVariants.{KeyStatus, Encryption, EncryptionRoot, KeyFormat, KeyLocation, Pbkdf2Iters, RecordSize}
 use Rattle.shell_lines.specs.declared.line.Line.{Line}
-use Rattle.shell_lines.specs.declared.line.Line.TheVariants.{Silent, Create, List as ListSets}
+use Rattle.shell_lines.specs.declared.line.Line.TheVariants.{Silent, Create, LoadKey, UnloadKey, Get, List as ListSets}
 use Rattle.shell_lines.specs.Words.{WordAt, words_of}
-use Rattle.shell_lines.specs.Grammar.{command_of, create_of, end_of, line_of, placed_of, is_comment, is_printable, first_unprintable}
-use Rattle.shell_lines.specs.Language.{IsLine, CanBegin, IsWrongWord, IsFirstWrong, IsPrintable, IsFirstUnprintable, IsComment, IsPlain, texts}
+use Rattle.shell_lines.specs.Grammar.{command_of, name_from, get_of, get_from, prop_of, end_of, is_built, built_of, line_of, placed_of, is_comment, is_printable, first_unprintable}
+use Rattle.shell_lines.specs.Language.{IsLine, IsCreate, LacksLocation, IsBuilt, prop_name, CanBegin, IsWrongWord, IsFirstWrong, IsUnbuilt, IsPrintable, IsFirstUnprintable, IsComment, IsPlain, texts}
+use Rattle.shell_lines.proofs.FrontLemmas.{by_text}
+use Rattle.shell_lines.proofs.CreateLemmas.{Tells, create_tells, create_given, Begins, first_word, no_word}
+use Rattle.shell_lines.proofs.ReadLemmas.{unplaced, CanGoOn, StopsAtWord, LacksNext, command_read}
 
--- a word is a text or it isn't, and the test says which
-by_text : {P : Type 0} (word text : List ℕ) → (bytes_eq word text ≡ true → word ≡ text → P) → (bytes_eq word text ≡ false → word ≢ text → P) → P
-by_text {P} word text same other =
-    elim (bytes_eq word text) as (λ v. bytes_eq word text ≡ v → P) [
-      | true ↦ λ e. same e ((bytes_eq-Decides word text).0 e)
-      | false ↦ λ e. other e (λ h. let yes : bytes_eq word text ≡ true = (bytes_eq-Decides word text).1 h in cc)
-    ] refl
+-- What is given is a line of the table.
 
-list_is_no_create : codes "list" ≢ codes "create"
-list_is_no_create h = let yes : false ≡ true = (bytes_eq-Decides (codes "list") (codes "create")).1 h in cc
+name_tells : (front : List (List ℕ)) (line : List ℕ → Line) (end : ℕ) (words : List WordAt) → ((name : List ℕ) → IsLine (front ++ (name ∷ [])) (line name))
+    → Tells (front ++ texts words) (name_from end line words)
+name_tells front line end [] h = tt
+name_tells front line end (name ∷ []) h = h name.text
+name_tells front line end (name ∷ word ∷ words) h = tt
 
-begins_nothing : CanBegin []
-begins_nothing = ([], Silent, refl)
+abbrev IsNamed : List ℕ → Option Prop → Type 0
+IsNamed word None = Unit {0}
+IsNamed word (Some prop) = word ≡ prop_name prop
 
-begins_create : CanBegin (codes "create" ∷ [])
-begins_create = (codes "a" ∷ [], Create (codes "a"), (refl, λ h. let yes : false ≡ true = (bytes_eq-Decides (codes "a") (codes "-o")).1 h in cc))
+prop_is : (word : List ℕ) → IsNamed word (prop_of word)
+prop_is word =
+    by_text word (codes "keystatus") (λ e same. rw e same) (λ e other. rw e
+    (by_text word (codes "encryption") (λ e same. rw e same) (λ e other. rw e
+    (by_text word (codes "encryptionroot") (λ e same. rw e same) (λ e other. rw e
+    (by_text word (codes "keyformat") (λ e same. rw e same) (λ e other. rw e
+    (by_text word (codes "keylocation") (λ e same. rw e same) (λ e other. rw e
+    (by_text word (codes "pbkdf2iters") (λ e same. rw e same) (λ e other. rw e
+    (by_text word (codes "recordsize") (λ e same. rw e same) (λ e other. rw e tt)))))))))))))
 
--- what the language's answer says of the words
-abbrev Says : List WordAt → ℕ → Result Line ℕ → Type 0
-Says words end (Ok line) = IsLine (texts words) line
-Says words end (Err at) = IsFirstWrong words end at
+prop_tells : (end at : ℕ) (word : List ℕ) (given : Option Prop) (words : List WordAt) → IsNamed word given → Tells (codes "get" ∷ word ∷ texts words) (get_from end at given words)
+prop_tells end at word None words h = tt
+prop_tells end at word (Some prop) words h =
+    name_tells (codes "get" ∷ word ∷ []) (λ name. Get prop name) end words (λ name. ap (λ (text : List ℕ). codes "get" ∷ text ∷ name ∷ []) h)
 
-wrong_word : (before : List WordAt) (word : WordAt) (behind : List WordAt) (end : ℕ) → CanBegin (texts before) → ¬ CanBegin (texts before ++ (word.text ∷ []))
-    → IsFirstWrong (before ++ (word ∷ behind)) end word.at
-wrong_word before word behind end begin wrong = inl (record { before = before; word = word; behind = behind; stand = refl; begin = begin; wrong = wrong; offset = refl })
+get_tells : (end : ℕ) (words : List WordAt) → Tells (codes "get" ∷ texts words) (get_of end words)
+get_tells end [] = tt
+get_tells end (prop ∷ words) = prop_tells end prop.at prop.text (prop_of prop.text) words (prop_is prop.text)
 
-no_command : (command : List ℕ) → command ≢ codes "create" → command ≢ codes "list" → ¬ CanBegin (command ∷ [])
-no_command command no_create no_list (more, Silent, h) = cc
-no_command command no_create no_list (more, Create name, h) = no_create (let words : command ∷ more ≡ codes "create" ∷ name ∷ [] = h.0 in cc)
-no_command command no_create no_list (more, ListSets, h) = no_list (cc)
+list_tells : (words : List WordAt) → Tells (codes "list" ∷ texts words) (end_of ListSets words)
+list_tells [] = refl
+list_tells (word ∷ words) = tt
 
-behind_list : (word : List ℕ) → ¬ CanBegin (codes "list" ∷ word ∷ [])
-behind_list word (more, Silent, h) = cc
-behind_list word (more, Create name, h) = list_is_no_create (let words : codes "list" ∷ word ∷ more ≡ codes "create" ∷ name ∷ [] = h.0 in cc)
-behind_list word (more, ListSets, h) = cc
+tells : (end : ℕ) (words : List WordAt) → Tells (texts words) (command_of end words)
+tells end [] = refl
+tells end (command ∷ words) =
+    by_text command.text (codes "create") (λ e same. rw (e, same) (create_tells end words)) (λ e other. rw e
+    (by_text command.text (codes "load-key") (λ e same. rw (e, same) (name_tells (codes "load-key" ∷ []) (λ name. LoadKey name) end words (λ name. refl))) (λ e other. rw e
+    (by_text command.text (codes "unload-key") (λ e same. rw (e, same) (name_tells (codes "unload-key" ∷ []) (λ name. UnloadKey name) end words (λ name. refl))) (λ e other. rw e
+    (by_text command.text (codes "get") (λ e same. rw (e, same) (get_tells end words)) (λ e other. rw e
+    (by_text command.text (codes "list") (λ e same. rw (e, same) (list_tells words)) (λ e other. rw e tt)))))))))
 
-option_name : ¬ CanBegin (codes "create" ∷ codes "-o" ∷ [])
-option_name (more, Silent, h) = cc
-option_name (more, Create name, h) = h.1 (let words : codes "create" ∷ codes "-o" ∷ more ≡ codes "create" ∷ name ∷ [] = h.0 in cc)
-option_name (more, ListSets, h) = cc
+sound : (end : ℕ) (words : List WordAt) (line : Line) → command_of end words ≡ Ok line → IsLine (texts words) line
+sound end words line e = subst (Tells (texts words)) e (tells end words)
 
-behind_name : (name word : List ℕ) → ¬ CanBegin (codes "create" ∷ name ∷ word ∷ [])
-behind_name name word (more, Silent, h) = cc
-behind_name name word (more, Create other, h) = (let words : codes "create" ∷ name ∷ word ∷ more ≡ codes "create" ∷ other ∷ [] = h.0 in cc)
-behind_name name word (more, ListSets, h) = cc
+-- A line of the table is given.
 
-create_alone : (line : Line) → ¬ IsLine (codes "create" ∷ []) line
-create_alone Silent h = cc
-create_alone (Create name) h = (let words : codes "create" ∷ [] ≡ codes "create" ∷ name ∷ [] = h.0 in cc)
-create_alone ListSets h = list_is_no_create (cc)
+prop_given : (prop : Prop) → prop_of (prop_name prop) ≡ Some prop
+prop_given KeyStatus = refl
+prop_given Encryption = refl
+prop_given EncryptionRoot = refl
+prop_given KeyFormat = refl
+prop_given KeyLocation = refl
+prop_given Pbkdf2Iters = refl
+prop_given RecordSize = refl
 
-behind_create : (command name : WordAt) (words : List WordAt) (end : ℕ) → command.text ≡ codes "create" → name.text ≢ codes "-o"
-    → Says (command ∷ name ∷ words) end (end_of (Create name.text) words)
-behind_create command name [] end same other = (ap (λ text. text ∷ name.text ∷ []) same, other)
-behind_create command name (word ∷ words) end same other =
-    wrong_word (command ∷ name ∷ []) word words end ([], Create name.text, (ap (λ text. text ∷ name.text ∷ []) same, other)) (rw same (behind_name name.text word.text))
+name_given : (line : List ℕ → Line) (end : ℕ) (words : List WordAt) (name : List ℕ) → texts words ≡ name ∷ [] → name_from end line words ≡ Ok (line name)
+name_given line end words name h =
+    let n : Begins words name [] = first_word words name [] h in
+    let none : n.rest ≡ [] = no_word n.rest n.behind_is in
+    rw (n.stand, none) refl
 
-after_create : (command : WordAt) (words : List WordAt) (end : ℕ) → command.text ≡ codes "create" → Says (command ∷ words) end (create_of end words)
-after_create command [] end same = inr (record { begin = rw same begins_create; no_line = rw same create_alone; offset = refl })
-after_create command (name ∷ words) end same =
-    by_text name.text (codes "-o")
-    (λ e option. rw e (wrong_word (command ∷ []) name words end (rw same begins_create) (rw (same, option) option_name)))
-    (λ e other. rw e (behind_create command name words end same other))
-
-after_list : (command : WordAt) (words : List WordAt) (end : ℕ) → command.text ≡ codes "list" → Says (command ∷ words) end (end_of ListSets words)
-after_list command [] end same = ap (λ text. text ∷ []) same
-after_list command (word ∷ words) end same = wrong_word (command ∷ []) word words end ([], ListSets, ap (λ text. text ∷ []) same) (rw same (behind_list word.text))
-
-says : (words : List WordAt) (end : ℕ) → Says words end (command_of end words)
-says [] end = refl
-says (command ∷ words) end =
-    by_text command.text (codes "create")
-    (λ e same. rw e (after_create command words end same))
-    (λ e no_create. rw e (by_text command.text (codes "list")
-    (λ f same. rw f (after_list command words end same))
-    (λ f no_list. rw f (wrong_word [] command words end begins_nothing (no_command command.text no_create no_list)))))
-
-other_text : (word text : List ℕ) → word ≢ text → bytes_eq word text ≡ false
-other_text word text apart = by_text word text (λ e same. absurd (apart same)) (λ e other. e)
-
--- a line of the table is given
-spelled : (words : List WordAt) (line : Line) (end : ℕ) → IsLine (texts words) line → command_of end words ≡ Ok line
-spelled [] Silent end h = refl
-spelled (command ∷ words) Silent end h = cc
-spelled [] (Create name) end h = (let words : [] ≡ codes "create" ∷ name ∷ [] = h.0 in cc)
-spelled (command ∷ []) (Create name) end h = (let words : command.text ∷ [] ≡ codes "create" ∷ name ∷ [] = h.0 in cc)
-spelled (command ∷ named ∷ []) (Create name) end h =
-    let words : command.text ∷ named.text ∷ [] ≡ codes "create" ∷ name ∷ [] = h.0 in
-    let create : command.text ≡ codes "create" = cc in
-    let same : named.text ≡ name = cc in
-    rw (create, same, other_text name (codes "-o") h.1) refl
-spelled (command ∷ named ∷ word ∷ words) (Create name) end h = (let all : command.text ∷ named.text ∷ word.text ∷ texts words ≡ codes "create" ∷ name ∷ [] = h.0 in cc)
-spelled [] ListSets end h = cc
-spelled (command ∷ []) ListSets end h = (let list : command.text ≡ codes "list" = cc in rw list refl)
-spelled (command ∷ word ∷ words) ListSets end h = cc
+complete : (end : ℕ) (words : List WordAt) (line : Line) → IsLine (texts words) line → command_of end words ≡ Ok line
+complete end words Silent h = let none : words ≡ [] = no_word words h in rw none refl
+complete end words (Create name options) h =
+    let w : Begins words (codes "create") _ = first_word words (codes "create") _ h.stand in
+    let create : IsCreate (codes "create" ∷ texts w.rest) name options = subst (λ (all : List (List ℕ)). IsCreate all name options) (ap (λ (all : List WordAt). texts all) w.stand) h in
+    rw w.stand (create_given end w.rest name options create)
+complete end words (LoadKey name) h =
+    let w : Begins words (codes "load-key") (name ∷ []) = first_word words (codes "load-key") (name ∷ []) h in
+    rw w.stand (name_given (λ text. LoadKey text) end w.rest name w.behind_is)
+complete end words (UnloadKey name) h =
+    let w : Begins words (codes "unload-key") (name ∷ []) = first_word words (codes "unload-key") (name ∷ []) h in
+    rw w.stand (name_given (λ text. UnloadKey text) end w.rest name w.behind_is)
+complete end words (Get prop name) h =
+    let w : Begins words (codes "get") (prop_name prop ∷ name ∷ []) = first_word words (codes "get") (prop_name prop ∷ name ∷ []) h in
+    let p : Begins w.rest (prop_name prop) (name ∷ []) = first_word w.rest (prop_name prop) (name ∷ []) w.behind_is in
+    rw (w.stand, p.stand, prop_given prop) (name_given (λ text. Get prop text) end p.rest name p.behind_is)
+complete end words ListSets h =
+    let w : Begins words (codes "list") [] = first_word words (codes "list") [] h in
+    let none : w.rest ≡ [] = no_word w.rest w.behind_is in
+    rw (w.stand, none) refl
 
 -- What begins a line still does with fewer words.
 
@@ -154,13 +148,85 @@ one_place words at other w v =
       ]
     ]
 
-agrees : (words : List WordAt) (end at : ℕ) (outcome : Result Line ℕ) → IsFirstWrong words end at → Says words end outcome → outcome ≡ Err at
-agrees words end at (Ok line) (inl w) h = absurd (past_wrong words at w (whole words line h))
-agrees words end at (Ok line) (inr l) h = absurd (l.no_line line h)
-agrees words end at (Err other) (inl w) (inl v) = ap Err (one_place words other at v w)
-agrees words end at (Err other) (inl w) (inr l) = absurd (past_wrong words at w l.begin)
-agrees words end at (Err other) (inr l) (inl v) = absurd (past_wrong words other v l.begin)
-agrees words end at (Err other) (inr l) (inr m) = ap Err (m.offset ∙ sym l.offset)
+-- Where a reading stops, the words leave the table.
+
+texts_unplaced : (words : List (List ℕ)) → texts (unplaced words) ≡ words
+texts_unplaced [] = refl
+texts_unplaced (text ∷ words) = ap (λ (more : List (List ℕ)). text ∷ more) (texts_unplaced words)
+
+begins : (front : List (List ℕ)) → CanGoOn command_of front → CanBegin front
+begins front (more, line, e) = (more, line, subst (λ (all : List (List ℕ)). IsLine all line) (texts_unplaced (front ++ more)) (sound 0 (unplaced (front ++ more)) line e))
+
+stays_wrong : (words : List WordAt) (stop : StopsAtWord command_of words) → ¬ CanBegin (texts stop.before ++ (stop.word.text ∷ []))
+stays_wrong words stop (more, line, h) =
+    let all : List WordAt = stop.before ++ (stop.word ∷ unplaced more) in
+    let shown : texts all ≡ (texts stop.before ++ (stop.word.text ∷ [])) ++ more = up_to stop.before stop.word (unplaced more) ∙ ap (λ (rest : List (List ℕ)). (texts stop.before ++ (stop.word.text ∷ [])) ++ rest) (texts_unplaced more) in
+    let taken : command_of 0 all ≡ Ok line = complete 0 all line (subst (λ (texts : List (List ℕ)). IsLine texts line) (sym shown) h) in
+    let stopped : command_of 0 all ≡ Err stop.word.at = stop.wrong 0 (unplaced more) in
+    cc
+
+stops_wrong : (words : List WordAt) (end : ℕ) (stop : StopsAtWord command_of words) → IsFirstWrong words end stop.word.at
+stops_wrong words end stop = inl (record {
+  before = stop.before;
+  word = stop.word;
+  behind = stop.behind;
+  stand = stop.stand;
+  begin = begins (texts stop.before) stop.begin;
+  wrong = stays_wrong words stop;
+  offset = refl;
+})
+
+lacks_word : (words : List WordAt) (end : ℕ) → LacksNext command_of words → IsFirstWrong words end end
+lacks_word words end lack = inr (record {
+  begin = begins (texts words) lack.begin;
+  no_line = λ line h. (let taken : command_of end words ≡ Ok line = complete end words line h in let missing : command_of end words ≡ Err end = lack.missing end in cc);
+  offset = refl;
+})
+
+-- the place where the reading of the words ends in error
+stops : (words : List WordAt) (end at : ℕ) → command_of end words ≡ Err at → IsFirstWrong words end at
+stops words end at e =
+    elim (command_read words) [
+      | inl through ↦ (let taken : command_of end words ≡ Ok through.0 = through.1 end in absurd (cc))
+      | inr ended ↦ elim ended [
+        | inl stop ↦ (let here : command_of end words ≡ Err stop.word.at = ap (λ (all : List WordAt). command_of end all) stop.stand ∙ stop.wrong end stop.behind in
+            let same : stop.word.at ≡ at = cc in subst (λ (n : ℕ). IsFirstWrong words end n) same (stops_wrong words end stop))
+        | inr lack ↦ (let here : command_of end words ≡ Err end = lack.missing end in let same : end ≡ at = cc in subst (λ (n : ℕ). IsFirstWrong words end n) same (lacks_word words end lack))
+      ]
+    ]
+
+-- words that leave the table aren't a line of it
+no_line_there : (words : List WordAt) (end at : ℕ) (line : Line) → IsFirstWrong words end at → ¬ IsLine (texts words) line
+no_line_there words end at line (inl w) h = past_wrong words at w (whole words line h)
+no_line_there words end at line (inr l) h = l.no_line line h
+
+same_place : (words : List WordAt) (end at other : ℕ) → IsFirstWrong words end at → IsFirstWrong words end other → other ≡ at
+same_place words end at other (inl w) (inl v) = one_place words other at v w
+same_place words end at other (inl w) (inr l) = absurd (past_wrong words at w l.begin)
+same_place words end at other (inr l) (inl v) = absurd (past_wrong words other v l.begin)
+same_place words end at other (inr l) (inr m) = m.offset ∙ sym l.offset
+
+-- What isn't built.
+
+place_tells : (format : Option Format) (place : Option Location)
+    → (((not (is_some format) || is_some place) ≡ true) × (¬ ((format ≢ None) × (place ≡ None)))) ⊎ (((not (is_some format) || is_some place) ≡ false) × ((format ≢ None) × (place ≡ None)))
+place_tells None place = inl (refl, λ h. h.0 refl)
+place_tells (Some format) None = inr (refl, ((λ e. cc), refl))
+place_tells (Some format) (Some place) = inl (refl, λ h. (let e : Some place ≡ None = h.1 in cc))
+
+built_tells : (line : Line) → ((is_built line ≡ true) × IsBuilt line) ⊎ ((is_built line ≡ false) × LacksLocation line)
+built_tells (Create name options) = place_tells options.format options.place
+built_tells Silent = inl (refl, λ h. h)
+built_tells (LoadKey name) = inl (refl, λ h. h)
+built_tells (UnloadKey name) = inl (refl, λ h. h)
+built_tells (Get prop name) = inl (refl, λ h. h)
+built_tells ListSets = inl (refl, λ h. h)
+
+built_line : (end : ℕ) (line : Line) → IsBuilt line → built_of end (Ok line) ≡ Ok line
+built_line end line built = elim (built_tells line) [ inl known ↦ rw known.0 refl | inr unbuilt ↦ absurd (built unbuilt.1) ]
+
+unbuilt_line : (end : ℕ) (line : Line) → LacksLocation line → built_of end (Ok line) ≡ Err end
+unbuilt_line end line lacks = elim (built_tells line) [ inl built ↦ absurd (built.1 lacks) | inr unbuilt ↦ rw unbuilt.0 refl ]
 
 -- Bytes
 
@@ -209,24 +275,50 @@ at_unprintable bytes inside at none first = rw (no_comment bytes none, one_unpri
 by_words : (bytes : List ℕ) (inside : ℕ) → IsPlain bytes → line_of bytes inside ≡ placed_of inside (length bytes) (words_of bytes)
 by_words bytes inside plain = rw (no_comment bytes plain.no_comment, all_printable bytes plain) refl
 
-outside : (end : ℕ) (words : List WordAt) → placed_of 0 end words ≡ command_of end words
+outside : (end : ℕ) (words : List WordAt) → placed_of 0 end words ≡ built_of end (command_of end words)
 outside end [] = refl
 outside end (word ∷ words) = refl
 
-by_command : (bytes : List ℕ) → IsPlain bytes → line_of bytes 0 ≡ command_of (length bytes) (words_of bytes)
+by_command : (bytes : List ℕ) → IsPlain bytes → line_of bytes 0 ≡ built_of (length bytes) (command_of (length bytes) (words_of bytes))
 by_command bytes plain = by_words bytes 0 plain ∙ outside (length bytes) (words_of bytes)
 
-says_line : (bytes : List ℕ) (outcome : Result Line ℕ) → IsPlain bytes → line_of bytes 0 ≡ outcome → Says (words_of bytes) (length bytes) outcome
-says_line bytes outcome plain e = subst (Says (words_of bytes) (length bytes)) (sym (by_command bytes plain) ∙ e) (says (words_of bytes) (length bytes))
+line_built : (words : List WordAt) (end : ℕ) (given : Result Line ℕ) (line : Line) → command_of end words ≡ given → built_of end given ≡ Ok line → IsLine (texts words) line × IsBuilt line
+line_built words end (Err at) line e b = absurd (cc)
+line_built words end (Ok told) line e b =
+    elim (built_tells told) [
+      | inl built ↦ (let taken : Ok told ≡ Ok line = rw built.0 at b in let same : told ≡ line = cc in
+          (subst (IsLine (texts words)) same (sound end words told e), subst IsBuilt same built.1))
+      | inr unbuilt ↦ (let bad : Err end ≡ Ok line = rw unbuilt.0 at b in absurd (cc))
+    ]
 
-pub is_line : (bytes : List ℕ) (line : Line) → IsPlain bytes → line_of bytes 0 ≡ Ok line → IsLine (texts (words_of bytes)) line
-is_line bytes line plain e = says_line bytes (Ok line) plain e
+wrong_or_unbuilt : (words : List WordAt) (end at : ℕ) (given : Result Line ℕ) → command_of end words ≡ given → built_of end given ≡ Err at → IsFirstWrong words end at ⊎ IsUnbuilt words end at
+wrong_or_unbuilt words end at (Err place) e b = let same : place ≡ at = cc in inl (subst (λ (n : ℕ). IsFirstWrong words end n) same (stops words end place e))
+wrong_or_unbuilt words end at (Ok told) e b =
+    elim (built_tells told) [
+      | inl built ↦ (let taken : Ok told ≡ Err at = rw built.0 at b in absurd (cc))
+      | inr unbuilt ↦ (let bad : Err end ≡ Err at = rw unbuilt.0 at b in let same : at ≡ end = cc in
+          inr (record { line = told; is_line = sound end words told e; unbuilt = unbuilt.1; offset = same }))
+    ]
 
-pub gives_line : (bytes : List ℕ) (line : Line) → IsPlain bytes → IsLine (texts (words_of bytes)) line → line_of bytes 0 ≡ Ok line
-gives_line bytes line plain h = by_command bytes plain ∙ spelled (words_of bytes) line (length bytes) h
+wrong_stops : (words : List WordAt) (end at : ℕ) (given : Result Line ℕ) → command_of end words ≡ given → IsFirstWrong words end at → built_of end given ≡ Err at
+wrong_stops words end at (Ok told) e wrong = absurd (no_line_there words end at told wrong (sound end words told e))
+wrong_stops words end at (Err place) e wrong = ap Err (same_place words end at place wrong (stops words end place e))
 
-pub first_wrong : (bytes : List ℕ) (at : ℕ) → IsPlain bytes → line_of bytes 0 ≡ Err at → IsFirstWrong (words_of bytes) (length bytes) at
-first_wrong bytes at plain e = says_line bytes (Err at) plain e
+pub is_line : (bytes : List ℕ) (line : Line) → IsPlain bytes → line_of bytes 0 ≡ Ok line → IsLine (texts (words_of bytes)) line × IsBuilt line
+is_line bytes line plain e = line_built (words_of bytes) (length bytes) (command_of (length bytes) (words_of bytes)) line refl (sym (by_command bytes plain) ∙ e)
+
+pub gives_line : (bytes : List ℕ) (line : Line) → IsPlain bytes → IsLine (texts (words_of bytes)) line × IsBuilt line → line_of bytes 0 ≡ Ok line
+gives_line bytes line plain h =
+    by_command bytes plain ∙ ap (built_of (length bytes)) (complete (length bytes) (words_of bytes) line h.0) ∙ built_line (length bytes) line h.1
+
+pub first_wrong : (bytes : List ℕ) (at : ℕ) → IsPlain bytes → line_of bytes 0 ≡ Err at → IsFirstWrong (words_of bytes) (length bytes) at ⊎ IsUnbuilt (words_of bytes) (length bytes) at
+first_wrong bytes at plain e = wrong_or_unbuilt (words_of bytes) (length bytes) at (command_of (length bytes) (words_of bytes)) refl (sym (by_command bytes plain) ∙ e)
+
+pub bad_at_first_wrong : (bytes : List ℕ) (at : ℕ) → IsPlain bytes → IsFirstWrong (words_of bytes) (length bytes) at ⊎ IsUnbuilt (words_of bytes) (length bytes) at → line_of bytes 0 ≡ Err at
+bad_at_first_wrong bytes at plain (inl wrong) = by_command bytes plain ∙ wrong_stops (words_of bytes) (length bytes) at (command_of (length bytes) (words_of bytes)) refl wrong
+bad_at_first_wrong bytes at plain (inr unbuilt) =
+    by_command bytes plain ∙ ap (built_of (length bytes)) (complete (length bytes) (words_of bytes) unbuilt.line unbuilt.is_line)
+    ∙ unbuilt_line (length bytes) unbuilt.line unbuilt.unbuilt ∙ ap Err (sym unbuilt.offset)
 
 pub blank_line : (bytes : List ℕ) (inside : ℕ) → IsPlain bytes → words_of bytes ≡ [] → line_of bytes inside ≡ Ok Silent
 blank_line bytes inside plain none = by_words bytes inside plain ∙ ap (placed_of inside (length bytes)) none
@@ -237,6 +329,3 @@ nothing_stands inside end (word ∷ words) some any = let in_section : eqb insid
 
 pub inside_section : (bytes : List ℕ) (inside : ℕ) → IsPlain bytes → 0 < inside → words_of bytes ≢ [] → line_of bytes inside ≡ Err 0
 inside_section bytes inside plain some words = by_words bytes inside plain ∙ nothing_stands inside (length bytes) (words_of bytes) some words
-
-pub bad_at_first_wrong : (bytes : List ℕ) (at : ℕ) → IsPlain bytes → IsFirstWrong (words_of bytes) (length bytes) at → line_of bytes 0 ≡ Err at
-bad_at_first_wrong bytes at plain wrong = by_command bytes plain ∙ agrees (words_of bytes) (length bytes) at (command_of (length bytes) (words_of bytes)) wrong (says (words_of bytes) (length bytes))

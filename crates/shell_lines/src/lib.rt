@@ -4,6 +4,7 @@
 mod laws;
 mod line;
 mod parse;
+mod setting;
 mod words;
 
 pub use laws::{bad_at_the_first_wrong_word, words_are_the_longest_runs};

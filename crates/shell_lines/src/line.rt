@@ -2,6 +2,7 @@
 ghost use Rattle.std.specs.Prelude.{◌≡◌, IfOk};
 ghost use Rattle.shell_lines.specs.declared.line.LineStop.TheVariants.{NoMemory as OutOfMemory};
 
+use encryption_roots::{Options, Prop};
 use std::alloc::{AllocError, Global};
 use std::marker::Model;
 
@@ -41,8 +42,14 @@ impl Word {
 pub enum Line {
     /// A line without words, or one that begins with `#` or `<`.
     Silent,
-    /// `create NAME`
-    Create { name: Word },
+    /// `create`, options `-o KEY=VALUE`, `NAME`
+    Create { name: Word, opts: Options },
+    /// `load-key NAME`
+    LoadKey { name: Word },
+    /// `unload-key NAME`
+    UnloadKey { name: Word },
+    /// `get PROP NAME`
+    Get { prop: Prop, name: Word },
     /// `list`
     List,
 }

@@ -1,2 +1,5 @@
 pub mod WritingLemmas
+pub mod TakingLemmas
+pub mod CommandLemmas
+pub mod FaultLemmas
 pub mod RunLemmas

@@ -1,27 +1,47 @@
--- What the calls that carry out a line say of their answers.
-use Rattle.std.specs.Prelude.{◌≡◌, ℕ, List, ◌++◌, Result, Ok, Err}
-use Rattle.dataset_tree.specs.declared.refusal.Refusal.{Refusal}
+-- What the calls that carry out a line say of their answers. `kept` says that no taking failed in the call; without it, and where
+-- key files or entropy aren't told, the world isn't known.
+use Rattle.std.specs.Prelude.{◌≡◌, ℕ, List, ◌++◌, IfSome, Result, Ok, Err}
+use Rattle.std.specs.declared.option.Option.{Option}
+use Rattle.std.specs.declared.option.Option.TheVariants.{Some}
+use Rattle.dataset_tree.specs.declared.refusal.Refusal.{Refusal as Why}
 use Rattle.dataset_tree.specs.declared.refusal.Stop.{Stop}
+use Rattle.dataset_tree.specs.declared.tree.Row.{Row}
 use Rattle.dataset_tree.specs.declared.refusal.Stop.TheVariants as stops
-use Rattle.dataset_tree.specs.Tree.{Datasets}
+use Rattle.encryption_roots.specs.declared.command.KeyCmd.{KeyCmd}
 use Rattle.shell_lines.specs.declared.line.Line.{Line}
 use Rattle.shell_lines.specs.declared.line.LineStop.{LineStop}
 use Rattle.shell_lines.specs.declared.line.LineStop.TheVariants as line_stops
-use Rattle.shell_run.specs.Transcript.{on_host, answer_of}
-
--- a command that changes the tree, or is refused and leaves it
-abbrev pub Creates : Result Datasets Refusal → Datasets → Datasets → Result (Unit {0}) Stop → Type 0
-Creates outcome old new (Ok done) = outcome ≡ Ok new
-Creates outcome old new (Err (stops.Refused why)) = (outcome ≡ Err why) × (new ≡ old)
-Creates outcome old new (Err stops.NoMemory) = Unit {0}
+use Rattle.shell_run.specs.declared.command.Shown.{Shown}
+use Rattle.shell_run.specs.declared.command.Shown.TheVariants as shows
+use Rattle.shell_run.specs.Texts.{ok_line, text_line, error_line}
+use Rattle.shell_run.specs.Transcript.{World, commanded, reply_output, answer_of}
 
 -- line n was carried out, and its output added
-abbrev pub CarriesOut : ℕ → Line → Datasets → Datasets → List ℕ → List ℕ → Type 0
-CarriesOut n line old new before after = (new ≡ (answer_of n (on_host old) line).world.datasets) × (after ≡ before ++ (answer_of n (on_host old) line).output)
+abbrev pub CarriesOut : ℕ → Line → (old new : Option World) (kept : Type 0) (before after : List ℕ) → Type 0
+CarriesOut n line old new kept before after =
+    IfSome old (λ w. kept → (new ≡ Some (answer_of n w line).world) × (after ≡ before ++ (answer_of n w line).output))
+
+-- what is printed of a result, want of memory apart
+abbrev pub shown_output : ℕ → List Row → Result Shown Why → List ℕ
+shown_output n rows (Ok shows.Done) = ok_line n
+shown_output n rows (Ok (shows.Text text)) = text_line n text
+shown_output n rows (Err why) = error_line n rows why
+
+abbrev pub Shows : ℕ → List Row → Result Shown Stop → (before after : List ℕ) → Type 0
+Shows n rows (Ok shown) before after = after ≡ before ++ shown_output n rows (Ok shown)
+Shows n rows (Err (stops.Refused why)) before after = after ≡ before ++ shown_output n rows (Err why)
+Shows n rows (Err stops.NoMemory) before after = ⊥
+
+-- a command, or the refusal in place of one, was answered as line n
+abbrev pub Commands : ℕ → Result KeyCmd Stop → (old new : Option World) (kept : Type 0) (before after : List ℕ) → Type 0
+Commands n (Ok command) old new kept before after =
+    IfSome old (λ w. kept → (new ≡ Some (commanded w command).world) × (after ≡ before ++ reply_output n (commanded w command).world.keys (commanded w command).reply))
+Commands n (Err (stops.Refused why)) old new kept before after = IfSome old (λ w. (new ≡ Some w) × (after ≡ before ++ error_line n w.keys.tree.rows why))
+Commands n (Err stops.NoMemory) old new kept before after = ⊥
 
 -- bytes that spell this outcome were answered
-abbrev pub AnswersTo : ℕ → Result Line ℕ → Datasets → Datasets → List ℕ → List ℕ → Result (Unit {0}) LineStop → Type 0
-AnswersTo n (Ok line) old new before after (Ok done) = CarriesOut n line old new before after
-AnswersTo n (Err at) old new before after (Ok done) = ⊥
-AnswersTo n outcome old new before after (Err (line_stops.Bad at)) = outcome ≡ Err at
-AnswersTo n outcome old new before after (Err line_stops.NoMemory) = Unit {0}
+abbrev pub AnswersTo : ℕ → Result Line ℕ → (old new : Option World) (kept : Type 0) (before after : List ℕ) → Result (Unit {0}) LineStop → Type 0
+AnswersTo n (Ok line) old new kept before after (Ok done) = CarriesOut n line old new kept before after
+AnswersTo n (Err at) old new kept before after (Ok done) = ⊥
+AnswersTo n outcome old new kept before after (Err (line_stops.Bad at)) = (outcome ≡ Err at) × (new ≡ old)
+AnswersTo n outcome old new kept before after (Err line_stops.NoMemory) = Unit {0}

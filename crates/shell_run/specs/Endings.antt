@@ -26,14 +26,22 @@ closing_line ReadFault = read_fault_line
 closing_line WriteFault = []
 closing_line NoMemory = no_memory_line
 
--- What the run was to do, where it ends so after these replies: an answered run has all of them, any other a front of them.
-abbrev pub EndsAs : Ending → Run → List ℕ → Type 0
-EndsAs Done run replies = run ≡ record { status = 0; replies = replies; last = [] }
-EndsAs Usage run replies = run ≡ record { status = 2; replies = replies; last = usage_line }
-EndsAs (BadLine number at) run replies = run ≡ record { status = 3; replies = replies; last = bad_line number at }
-EndsAs ReadFault run replies = IsFront replies run.replies
-EndsAs WriteFault run replies = IsFront replies run.replies
-EndsAs NoMemory run replies = IsFront replies run.replies
+-- What the run was to do, where it ends so after these replies, with this entropy left: an answered run has all of them, any other
+-- a front of them.
+abbrev pub EndsAs : Ending → Run → (replies entropy : List ℕ) → Type 0
+EndsAs Done run replies entropy = run ≡ record { status = 0; replies = replies; last = []; entropy = entropy }
+EndsAs Usage run replies entropy = run ≡ record { status = 2; replies = replies; last = usage_line; entropy = entropy }
+EndsAs (BadLine number at) run replies entropy = run ≡ record { status = 3; replies = replies; last = bad_line number at; entropy = entropy }
+EndsAs ReadFault run replies entropy = IsFront replies run.replies
+EndsAs WriteFault run replies entropy = IsFront replies run.replies
+EndsAs NoMemory run replies entropy = IsFront replies run.replies
+
+-- Where the run is answered, this entropy is left.
+abbrev pub Leaves : Ending → (told : Option (List ℕ)) (entropy : List ℕ) → Type 0
+Leaves Done told entropy = told ≡ Some entropy
+Leaves Usage told entropy = told ≡ Some entropy
+Leaves (BadLine number at) told entropy = told ≡ Some entropy
+Leaves ending told entropy = Unit {0}
 
 -- The source's count of faults over a part of the run: it rose where a read failed, and else stayed.
 abbrev pub SourceFaults : Option Ending → ℕ → ℕ → Type 0

@@ -4,3 +4,4 @@ pub mod Written
 pub mod Answers
 pub mod Endings
 pub mod Progress
+pub mod Takings

@@ -2,14 +2,14 @@
 use Rattle.std.specs.Prelude.{Result, Ok, Err, ◌≡◌, ◌⊎◌, ℕ, ◌+◌, ◌<◌, List, [], ◌∷◌, ◌++◌, length, IfSome, IsSomeAnd}
 use Rattle.std.specs.declared.option.Option.{Option}
 use Rattle.std.specs.declared.option.Option.TheVariants.{Some, None}
+use Rattle.std.specs.Option.{option_map}
 use Rattle.std.specs.Io.KnownBytes.{Appends}
-use Rattle.dataset_tree.specs.Tree.{Datasets}
 use Rattle.edge_io.specs.Lines.{lines}
 use Rattle.shell_lines.specs.declared.line.Line.{Line}
 use Rattle.shell_run.specs.declared.ending.Ending.{Ending}
 use Rattle.shell_run.specs.declared.ending.Ending.TheVariants.{Done, Usage, BadLine, ReadFault, WriteFault, NoMemory}
-use Rattle.shell_run.specs.Endings.{EndsAs}
-use Rattle.shell_run.specs.Transcript.{Run, preceded, on_host, run_from, answer_of}
+use Rattle.shell_run.specs.Endings.{EndsAs, Leaves}
+use Rattle.shell_run.specs.Transcript.{World, Run, preceded, run_from, answer_of}
 use Rattle.shell_run.specs.Written.{IsFront}
 
 -- The run is these replies, which the sink has taken, and then the rest.
@@ -27,11 +27,13 @@ abbrev pub Taken : Ending → Option (List ℕ) → Option (List ℕ) → List �
 Taken WriteFault before after bytes = Took before after bytes
 Taken ending before after bytes = Appends before after bytes
 
--- The run ends so, after the replies that the sink has taken.
-pub record Ends (ending : Ending) (run : Run) (before after : Option (List ℕ)) : Type 0 where
+-- The run ends so, after the replies that the sink has taken, and with the entropy that is told.
+pub record Ends (ending : Ending) (run : Run) (before after told : Option (List ℕ)) : Type 0 where
   pub replies : List ℕ
+  pub entropy : List ℕ
   pub taken : Taken ending before after replies
-  pub ends : EndsAs ending run replies
+  pub ends : EndsAs ending run replies entropy
+  pub leaves : Leaves ending told entropy
 
 -- a sink has taken a front of these bytes
 pub record TookFront (bytes : List ℕ) (before after : Option (List ℕ)) : Type 0 where
@@ -60,17 +62,23 @@ TakesNone NoMemory number bytes left = Unit {0}
 TakesNone Usage number bytes left = ⊥
 TakesNone WriteFault number bytes left = ⊥
 
--- the bytes of line n spelled this outcome, and it was carried out and its reply taken by the sink; or the run ends there
-abbrev pub Replied : Option Ending → ℕ → Result Line ℕ → Datasets → Datasets → Option (List ℕ) → Option (List ℕ) → Type 0
-Replied None n (Ok line) old new before after = (new ≡ (answer_of n (on_host old) line).world.datasets) × Appends before after (answer_of n (on_host old) line).output
-Replied None n (Err at) old new before after = ⊥
-Replied (Some WriteFault) n (Ok line) old new before after = TookFront (answer_of n (on_host old) line).output before after
-Replied (Some (BadLine number at)) n outcome old new before after = (number ≡ n) × (outcome ≡ Err at) × (after ≡ before)
-Replied (Some NoMemory) n outcome old new before after = after ≡ before
-Replied (Some ending) n outcome old new before after = ⊥
+-- The bytes of line n spelled this outcome, and it was carried out and its reply taken by the sink; or the run ends there. `kept`
+-- says that no taking failed.
+abbrev pub Replied : Option Ending → ℕ → Result Line ℕ → (old new : Option World) (kept : Type 0) (before after : Option (List ℕ)) → Type 0
+Replied None n (Ok line) old new kept before after =
+    IfSome old (λ w. kept → (new ≡ Some (answer_of n w line).world) × Appends before after (answer_of n w line).output)
+Replied None n (Err at) old new kept before after = ⊥
+Replied (Some WriteFault) n (Ok line) old new kept before after = IfSome old (λ w. kept → TookFront (answer_of n w line).output before after)
+Replied (Some (BadLine number at)) n outcome old new kept before after = (number ≡ n) × (outcome ≡ Err at) × (after ≡ before) × (new ≡ old)
+Replied (Some NoMemory) n outcome old new kept before after = after ≡ before
+Replied (Some ending) n outcome old new kept before after = ⊥
+
+-- the entropy of a world, where it is told
+abbrev pub entropy_of : Option World → Option (List ℕ)
+entropy_of world = option_map (λ w. w.entropy) world
 
 -- line n was answered and the run goes on, or it ends there
-abbrev pub LineRan : Option Ending → ℕ → List ℕ → Option (List ℕ) → Datasets → Datasets → Option (List ℕ) → Option (List ℕ) → Type 0
-LineRan None n bytes left old new before after =
-    IsSomeAnd left (λ rest. Goes (run_from n (lines bytes) (on_host old)) (run_from (n + 1) (lines rest) (on_host new)) before after)
-LineRan (Some ending) n bytes left old new before after = Ends ending (run_from n (lines bytes) (on_host old)) before after
+abbrev pub LineRan : Option Ending → ℕ → List ℕ → Option (List ℕ) → (old new : Option World) (kept : Type 0) (before after : Option (List ℕ)) → Type 0
+LineRan None n bytes left old new kept before after =
+    IsSomeAnd left (λ rest. IfSome old (λ w. kept → IsSomeAnd new (λ v. Goes (run_from n (lines bytes) w) (run_from (n + 1) (lines rest) v) before after)))
+LineRan (Some ending) n bytes left old new kept before after = IfSome old (λ w. kept → Ends ending (run_from n (lines bytes) w) before after (entropy_of new))

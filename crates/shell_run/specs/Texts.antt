@@ -1,5 +1,5 @@
 -- The lines that the shell prints.
-use Rattle.std.specs.Prelude.{ℕ, List, [], ◌∷◌, ◌++◌}
+use Rattle.std.specs.Prelude.{ℕ, Bool, List, [], ◌∷◌, ◌++◌, if◌then◌else◌}
 use Rattle.std.specs.declared.option.Option.{Option}
 use Rattle.std.specs.declared.option.Option.TheVariants.{Some, None}
 use Rattle.std.specs.Fmt.{decimal}
@@ -10,7 +10,12 @@ use Rattle.dataset_tree.specs.declared.refusal.MaterialFault.{MaterialFault}
 use Rattle.dataset_tree.specs.declared.refusal.MaterialFault.TheVariants.{Short, Long, Hex}
 use Rattle.dataset_tree.specs.declared.refusal.Refusal.{Refusal}
 use Rattle.dataset_tree.specs.declared.refusal.Refusal.TheVariants as refusals
+use Rattle.dataset_tree.specs.declared.kinds.Kind.{Kind}
+use Rattle.dataset_tree.specs.declared.kinds.Kind.TheVariants.{Plain as PlainKind, Crypt}
 use Rattle.dataset_tree.specs.declared.tree.Row.{Row}
+use Rattle.encryption_roots.specs.declared.props.Prop.TheVariants.{Encryption}
+use Rattle.key_machine.specs.Plain.{Plain, is_root, has_key}
+use Rattle.key_machine.specs.Properties.{property_text, status_text}
 use Rattle.dataset_tree.specs.Refusal.{number_of, name_of}
 use Rattle.dataset_tree.specs.Tree.{row_of}
 
@@ -85,9 +90,20 @@ error_text rows why = codes "error " ++ decimal (number_of why) ++ spaced (name_
 abbrev pub error_line : ℕ → List Row → Refusal → List ℕ
 error_line n rows why = reply_line n (error_text rows why)
 
--- the row of `list` for a dataset, none of which is encrypted yet
-abbrev pub set_line : ℕ → Row → List ℕ
-set_line n row = reply_line n (codes "set " ++ row.name ++ codes " plain")
+abbrev pub text_line : ℕ → List ℕ → List ℕ
+text_line n text = reply_line n (codes "ok " ++ text)
+
+-- how `list` shows a dataset behind its name: an encrypted one by its suite, whether it is a root, and whether its key is loaded
+abbrev pub heir_text : Bool → List ℕ
+heir_text is_own = if is_own then codes "root" else codes "inherit"
+
+abbrev pub kind_text : Plain → ℕ → Kind → List ℕ
+kind_text p id PlainKind = codes " plain"
+kind_text p id Crypt = spaced (property_text p id Encryption ∷ heir_text (is_root p id) ∷ status_text (has_key p id) ∷ [])
+
+-- the row of `list` for a dataset
+abbrev pub set_line : ℕ → Plain → Row → List ℕ
+set_line n p row = reply_line n (codes "set " ++ row.name ++ kind_text p row.id row.kind)
 
 abbrev pub bad_line : ℕ → ℕ → List ℕ
 bad_line n at = reply_line n (codes "bad " ++ decimal at)

@@ -1,51 +1,123 @@
--- What the shell prints for a script: a fold over its lines, from a host without datasets.
-use Rattle.std.specs.Prelude.{ℕ, zero, suc, ◌+◌, nat_lt, List, [], ◌∷◌, ◌++◌, length, drop, if◌then◌else◌, Result, Ok, Err}
+-- What the shell prints for a script: a fold over its lines, from a host that holds nothing.
+use Rattle.std.specs.Prelude.{ℕ, zero, suc, ◌+◌, nat_lt, nat_le, Bool, true, false, List, [], ◌∷◌, ◌++◌, length, take, drop, if◌then◌else◌, Result, Ok, Err}
+use Rattle.std.specs.declared.option.Option.{Option}
+use Rattle.std.specs.declared.option.Option.TheVariants.{Some, None}
+use Rattle.std.specs.Option.{option_and_then, option_map}
 use Rattle.std.specs.List.{flat_map}
-use Rattle.dataset_tree.specs.declared.kinds.Kind.TheVariants.{Plain}
 use Rattle.dataset_tree.specs.declared.refusal.Refusal.{Refusal}
 use Rattle.dataset_tree.specs.SetName.{named}
-use Rattle.dataset_tree.specs.Tree.{Datasets, new_id, with_row, no_datasets}
+use Rattle.edge_io.specs.KeyFiles.{fetched}
 use Rattle.edge_io.specs.Lines.{lines}
+use Rattle.encryption_roots.specs.declared.props.Location.{Location}
+use Rattle.encryption_roots.specs.declared.props.Location.TheVariants.{Prompt, File}
+use Rattle.encryption_roots.specs.declared.kit.Fetched.{Fetched}
+use Rattle.encryption_roots.specs.declared.kit.Fetched.TheVariants as fetches
+use Rattle.encryption_roots.specs.declared.kit.SeedGot.{SeedGot}
+use Rattle.encryption_roots.specs.declared.kit.SeedGot.TheVariants as seeds
+use Rattle.encryption_roots.specs.declared.kit.LineKit.{LineKit}
+use Rattle.encryption_roots.specs.declared.command.KeyCmd.{KeyCmd}
+use Rattle.encryption_roots.specs.declared.command.KeyCmd.TheVariants as commands
+use Rattle.key_machine.specs.Plain.{Plain, no_keys}
+use Rattle.key_machine.specs.Needs.{Wanted, wanted}
+use Rattle.key_machine.specs.Refusals.{refusal_of}
+use Rattle.key_machine.specs.Step.{Reply, Done, Made, Text, Refused, Reaped, Skipped}
+use Rattle.key_store.specs.Calls.{stepped}
 use Rattle.shell_lines.specs.declared.line.Line.{Line}
-use Rattle.shell_lines.specs.declared.line.Line.TheVariants.{Silent, Create, List as ListSets}
+use Rattle.shell_lines.specs.declared.line.Line.TheVariants.{Silent, Create, LoadKey, UnloadKey, Get, List as ListSets}
 use Rattle.shell_lines.specs.Grammar.{line_of}
-use Rattle.shell_run.specs.declared.found.FoundEntry.{FoundEntry}
-use Rattle.shell_run.specs.Texts.{ok_line, error_line, set_line, bad_line, usage_line}
+use Rattle.shell_run.specs.Texts.{ok_line, text_line, error_line, set_line, bad_line, usage_line}
 
--- what a script works on: the datasets of host `a`
+-- what a script works on: the keystore of host `a`, the key files, and the entropy that is left
 pub record World : Type 0 where
-  pub datasets : Datasets
+  pub keys : Plain
+  pub files : List (List ℕ × List ℕ)
+  pub entropy : List ℕ
 
-abbrev pub on_host : Datasets → World
-on_host t = record { datasets = t }
+-- the world, where key files and entropy are told
+abbrev pub told_world : Plain → Option (List (List ℕ × List ℕ)) → Option (List ℕ) → Option World
+told_world p files entropy = option_and_then (λ (f : List (List ℕ × List ℕ)). option_map (λ (e : List ℕ). record { keys = p; files = f; entropy = e }) entropy) files
+
+-- ---- what a command takes
+
+abbrev pub material_of : Option (List ℕ) → Fetched
+material_of None = fetches.Missing
+material_of (Some bytes) = fetches.Got bytes
+
+-- The material at a place. Until prompts are built, one gives no bytes.
+abbrev pub material_at : List (List ℕ × List ℕ) → Option Location → Fetched
+material_at files None = fetches.NotAsked
+material_at files (Some Prompt) = fetches.Got []
+material_at files (Some (File path)) = material_of (fetched path files)
+
+-- A seed is the next 32 bytes of entropy; where fewer are left it can't be had.
+abbrev pub seed_from : Bool → List ℕ → SeedGot
+seed_from false entropy = seeds.NotAsked
+seed_from true entropy = if nat_le 32 (length entropy) then seeds.Got (take 32 entropy) else seeds.Fault
+
+abbrev pub entropy_left : Bool → List ℕ → List ℕ
+entropy_left false entropy = entropy
+entropy_left true entropy = if nat_le 32 (length entropy) then drop 32 entropy else entropy
+
+abbrev pub kit_of : World → Wanted → LineKit
+kit_of w wants = record { old_key = material_at w.files wants.old_place; new_key = material_at w.files wants.new_place; seed = seed_from wants.seed w.entropy }
+
+-- ---- a command
+
+-- what a command leaves, and its reply
+pub record Commanded : Type 0 where
+  pub world : World
+  pub reply : Reply
+
+-- the machine's step under what the command takes
+abbrev pub taking : World → KeyCmd → Commanded
+taking w command =
+    let step = stepped w.keys command (kit_of w (wanted w.keys command)) in
+    record { world = record { keys = step.state; files = w.files; entropy = entropy_left (wanted w.keys command).seed w.entropy }; reply = step.reply }
+
+-- A command that the state refuses takes nothing.
+abbrev pub unless_refused : World → KeyCmd → Option Refusal → Commanded
+unless_refused w command (Some why) = record { world = w; reply = Refused why }
+unless_refused w command None = taking w command
+
+abbrev pub commanded : World → KeyCmd → Commanded
+commanded w command = unless_refused w command (refusal_of w.keys command)
+
+-- the command on the dataset that a word names, or why it names none
+abbrev pub command_named : (List ℕ → KeyCmd) → Result (List ℕ) Refusal → Result KeyCmd Refusal
+command_named command (Ok name) = Ok (command name)
+command_named command (Err why) = Err why
+
+abbrev pub commanded_if : World → Result KeyCmd Refusal → Commanded
+commanded_if w (Ok command) = commanded w command
+commanded_if w (Err why) = record { world = w; reply = Refused why }
+
+-- ---- a line
 
 -- what a line leaves, and what it prints
 pub record Answer : Type 0 where
   pub world : World
   pub output : List ℕ
 
--- the tree with a new plain dataset, or the first reason against it
-abbrev pub with_new : Datasets → List ℕ → Result ℕ Refusal → Result Datasets Refusal
-with_new t name (Ok id) = Ok (with_row t name Plain 0)
-with_new t name (Err why) = Err why
+-- what a reply to line n prints; datasets are named by the tree
+abbrev pub reply_output : ℕ → Plain → Reply → List ℕ
+reply_output n p Done = ok_line n
+reply_output n p (Made id) = ok_line n
+reply_output n p (Text text) = text_line n text
+reply_output n p (Refused why) = error_line n p.tree.rows why
+reply_output n p (Reaped dataset dropped) = ok_line n
+reply_output n p Skipped = ok_line n
 
-abbrev pub create_named : Datasets → Result (List ℕ) Refusal → Result Datasets Refusal
-create_named t (Ok name) = with_new t name (new_id t name)
-create_named t (Err why) = Err why
-
-abbrev pub created : Datasets → List ℕ → Result Datasets Refusal
-created t text = create_named t (named text)
-
--- the reply to a command that changes the tree, or is refused and changes nothing
-abbrev pub replied : ℕ → Datasets → Result Datasets Refusal → Answer
-replied n old (Ok new) = record { world = on_host new; output = ok_line n }
-replied n old (Err why) = record { world = on_host old; output = error_line n old.rows why }
+abbrev pub replied : ℕ → Commanded → Answer
+replied n done = record { world = done.world; output = reply_output n done.world.keys done.reply }
 
 -- line n, carried out
 abbrev pub answer_of : ℕ → World → Line → Answer
 answer_of n w Silent = record { world = w; output = [] }
-answer_of n w (Create name) = replied n w.datasets (created w.datasets name)
-answer_of n w ListSets = record { world = w; output = flat_map (set_line n) w.datasets.rows ++ ok_line n }
+answer_of n w (Create word opts) = replied n (commanded_if w (command_named (λ name. commands.Create name opts) (named word)))
+answer_of n w (LoadKey word) = replied n (commanded_if w (command_named (λ name. commands.Load name false None) (named word)))
+answer_of n w (UnloadKey word) = replied n (commanded_if w (command_named (λ name. commands.Unload name) (named word)))
+answer_of n w (Get prop word) = replied n (commanded_if w (command_named (λ name. commands.Get name prop) (named word)))
+answer_of n w ListSets = record { world = w; output = flat_map (set_line n w.keys) w.keys.tree.rows ++ ok_line n }
 
 -- a line in front of later ones: what it leaves, what it prints, and how many lines it took
 pub record Turn : Type 0 where
@@ -60,34 +132,39 @@ turn_of n w line later = record { world = (answer_of n w line).world; output = (
 abbrev pub checked : ℕ → List ℕ → Result Line ℕ
 checked n bytes = if nat_lt 1048576 n then Err 0 else if nat_lt 65536 (length bytes) then Err 65536 else line_of bytes 0
 
--- a whole run: its status, the replies in order, and the last line, which says why it ended before the script did
+-- a whole run: its status, the replies in order, the last line, which says why it ended before the script did, and the entropy left
 pub record Run : Type 0 where
   pub status : ℕ
   pub replies : List ℕ
   pub last : List ℕ
+  pub entropy : List ℕ
 
 -- all that is printed
 abbrev pub output_of : Run → List ℕ
 output_of run = run.replies ++ run.last
 
 abbrev pub preceded : List ℕ → Run → Run
-preceded output run = record { status = run.status; replies = output ++ run.replies; last = run.last }
+preceded output run = record { status = run.status; replies = output ++ run.replies; last = run.last; entropy = run.entropy }
 
 -- a line has its turn, and then those that it left; or it is bad, and nothing after it is done
 abbrev pub goes_on : ℕ → World → Result Line ℕ → List (List ℕ) → (World → ℕ → Run) → Run
-goes_on n w (Err at) later rest = record { status = 3; replies = []; last = bad_line n at }
+goes_on n w (Err at) later rest = record { status = 3; replies = []; last = bad_line n at; entropy = w.entropy }
 goes_on n w (Ok line) later rest = preceded (turn_of n w line later).output (rest (turn_of n w line later).world (turn_of n w line later).taken)
 
 -- the lines from number n on, of which there are at most so many
 abbrev pub run_within : ℕ → ℕ → List (List ℕ) → World → Run
-run_within bound n [] w = record { status = 0; replies = []; last = [] }
-run_within zero n (bytes ∷ later) w = record { status = 0; replies = []; last = [] }
+run_within bound n [] w = record { status = 0; replies = []; last = []; entropy = w.entropy }
+run_within zero n (bytes ∷ later) w = record { status = 0; replies = []; last = []; entropy = w.entropy }
 run_within (suc bound) n (bytes ∷ later) w = goes_on n w (checked n bytes) later (λ v taken. run_within bound (n + taken) (drop taken (bytes ∷ later)) v)
 
 abbrev pub run_from : ℕ → List (List ℕ) → World → Run
 run_from n ls w = run_within (length ls) n ls w
 
--- The whole run under these words, where these takings failed. No word is an option yet, so every one is a faulty command line.
-abbrev pub transcript : {W : Type 0} → List W → List ℕ → List FoundEntry → Run
-transcript [] script found = run_from 1 (lines script) (on_host no_datasets)
-transcript (word ∷ words) script found = record { status = 2; replies = []; last = usage_line }
+-- a host that holds nothing, with key files and entropy
+abbrev pub outside : List (List ℕ × List ℕ) → List ℕ → World
+outside files entropy = record { keys = no_keys; files = files; entropy = entropy }
+
+-- The whole run under these words, where no taking fails. No word is an option yet, so every one is a faulty command line.
+abbrev pub transcript : {W : Type 0} → List W → List ℕ → World → Run
+transcript [] script w = run_from 1 (lines script) w
+transcript (word ∷ words) script w = record { status = 2; replies = []; last = usage_line; entropy = w.entropy }

@@ -1,5 +1,5 @@
 // The failed takings of a run.
-ghost use Rattle.std.specs.Prelude.{◌≡◌, [], IfOk};
+ghost use Rattle.std.specs.Prelude.{◌≡◌, ◌∷◌, [], ◌++◌, IfOk, OnOk, OnErr};
 
 use dataset_tree::NoMemory;
 use std::alloc::Global;
@@ -52,6 +52,19 @@ impl Found {
     {
         let entries = Vec::new(alloc);
         Ok(Found { entries })
+    }
+
+    /// Adds a failed taking of a line.
+    pub(crate) fn push(&mut self, line: u32, what: FoundKind) -> Result<(), NoMemory>
+        ensures ok { OnOk result (self.new ≡ self.old ++ record { line = line; part = 0; what = what } ∷ []) }
+        ensures err { OnErr result (self.new ≡ self.old) }
+    {
+        self.entries.push(FoundEntry {
+            line,
+            part: 0,
+            what,
+        })?;
+        Ok(())
     }
 
     /// What was found.

@@ -2,10 +2,13 @@
 ghost use Rattle.std.specs.Prelude.{◌≡◌, ◌++◌, ◌∷◌, [], OnOk, decimal};
 ghost use Rattle.std.specs.List.{flat_map};
 ghost use Rattle.hex.specs.Hex.{encode_lower};
-ghost use Rattle.shell_run.specs.Texts.{reply_line, ok_line, error_line, error_text, set_line, bad_line, dataset_text, material_text, fields_of, spaced};
+ghost use Rattle.key_machine.specs.Properties.{status_text};
+ghost use Rattle.shell_run.specs.Texts.{reply_line, ok_line, text_line, error_line, error_text, heir_text, kind_text, set_line, bad_line, dataset_text, material_text, fields_of, spaced};
 
-use dataset_tree::{MaterialFault, NoMemory, Refusal, Row, Tree};
+use dataset_tree::{Kind, MaterialFault, NoMemory, Refusal, Row, Tree};
+use encryption_roots::Prop;
 use itoa::Buffer;
+use key_store::KeyState;
 
 /// Adds a number in decimal digits.
 fn push_number(text: &mut Vec<u8>, number: u64) -> Result<(), NoMemory>
@@ -33,22 +36,67 @@ pub(crate) fn push_bad(text: &mut Vec<u8>, line: u32, at: u32) -> Result<(), NoM
     text.extend_from_slice(b"\n")
 }
 
+/// Adds the reply to a line that shows a text.
+pub(crate) fn push_text(text: &mut Vec<u8>, line: u32, shown: &[u8]) -> Result<(), NoMemory>
+    ensures { OnOk result (text.new.items ≡ text.old.items ++ text_line line shown.now) }
+{
+    push_number(text, line as u64)?;
+    text.extend_from_slice(b" ok ")?;
+    text.extend_from_slice(shown)?;
+    text.extend_from_slice(b"\n")
+}
+
 /// Adds the row of a dataset.
-pub(crate) fn push_set(text: &mut Vec<u8>, line: u32, row: &Row) -> Result<(), NoMemory>
-    ensures { OnOk result (text.new.items ≡ text.old.items ++ set_line line row.now) }
+fn push_set(text: &mut Vec<u8>, line: u32, keys: &KeyState, row: &Row) -> Result<(), NoMemory>
+    ensures { OnOk result (text.new.items ≡ text.old.items ++ set_line line keys.now row.now) }
 {
     push_number(text, line as u64)?;
     text.extend_from_slice(b" set ")?;
     text.extend_from_slice(row.name.as_bytes())?;
-    text.extend_from_slice(b" plain\n")
+    push_kind(text, keys, row.id, row.kind)?;
+    text.extend_from_slice(b"\n")
 }
 
-/// Adds the rows of these datasets.
-pub(crate) fn push_sets(text: &mut Vec<u8>, line: u32, rows: &[Row]) -> Result<(), NoMemory>
-    ensures { OnOk result (text.new.items ≡ text.old.items ++ flat_map (set_line line) rows.now) }
+/// Adds what stands behind the name of a dataset.
+fn push_kind(text: &mut Vec<u8>, keys: &KeyState, id: u32, kind: Kind) -> Result<(), NoMemory>
+    ensures { OnOk result (text.new.items ≡ text.old.items ++ kind_text keys.now id kind) }
 {
-    for row in rows {
-        push_set(text, line, row)?;
+    match kind {
+        Kind::Plain => text.extend_from_slice(b" plain"),
+        Kind::Crypt => {
+            let suite = keys.get_prop(id, Prop::Encryption)?;
+            text.extend_from_slice(b" ")?;
+            text.extend_from_slice(suite.as_bytes())?;
+            text.extend_from_slice(b" ")?;
+            text.extend_from_slice(heir_text(keys.roots().contains(id)))?;
+            text.extend_from_slice(b" ")?;
+            text.extend_from_slice(status_text(keys.status(id)))
+        }
+    }
+}
+
+fn heir_text(is_own: bool) -> &'static [u8]
+    ensures { result.now ≡ heir_text is_own }
+{
+    if is_own { b"root" } else { b"inherit" }
+}
+
+fn status_text(is_available: bool) -> &'static [u8]
+    ensures { result.now ≡ status_text is_available }
+{
+    if is_available {
+        b"available"
+    } else {
+        b"unavailable"
+    }
+}
+
+/// Adds the rows of all datasets.
+pub(crate) fn push_sets(text: &mut Vec<u8>, line: u32, keys: &KeyState) -> Result<(), NoMemory>
+    ensures { OnOk result (text.new.items ≡ text.old.items ++ flat_map (set_line line keys.now) keys.now.tree.rows) }
+{
+    for row in keys.tree().rows() {
+        push_set(text, line, keys, row)?;
     }
     Ok(())
 }

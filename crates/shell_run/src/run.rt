@@ -2,22 +2,24 @@
 ghost use Rattle.std.specs.Prelude.{◌≡◌, ◌≢◌, ◌≤◌, ◌+◌, ◌++◌, ◌⊎◌, [], List, ℕ, IfOk, IfErr, IfSome, OnOk, OnErr, Some, None, length};
 ghost use Rattle.std.specs.Io.KnownBytes.{Appends};
 ghost use Rattle.std.specs.Result.{result_err};
-ghost use Rattle.dataset_tree.specs.Tree.{no_datasets};
+ghost use Rattle.key_machine.specs.Plain.{no_keys};
 ghost use Rattle.edge_io.specs.Faults.{HasCause, Rose};
 ghost use Rattle.edge_io.specs.Lines.{lines};
 ghost use Rattle.edge_io.specs.Told.{unread};
 ghost use Rattle.shell_lines.specs.Grammar.{line_of};
 ghost use Rattle.shell_run.specs.Endings.{EndsAs, closing_line, SourceFaults, SinkFaults, ClosesAs};
 ghost use Rattle.shell_run.specs.Progress.{Ends, Closes, LineRan, TakesLine, TakesNone, TookFront, Replied};
-ghost use Rattle.shell_run.specs.Transcript.{World, on_host, run_from, transcript, output_of};
+ghost use Rattle.shell_run.specs.Transcript.{World, told_world, run_from, transcript, output_of};
+ghost use Rattle.shell_run.specs.Takings.{Found as Lists};
 ghost use Rattle.shell_run.specs.Written.{IsAnswered, Wrote};
 
 use crate::answer::answer;
 use crate::ending::Ending;
 use crate::found::Found;
 use crate::reply::push_bad;
-use dataset_tree::{NoMemory, Tree};
-use edge_io::{Failed, LineError, LineReader, MAX_LINE, Sink, Source};
+use dataset_tree::NoMemory;
+use edge_io::{Entropy, Failed, KeyFiles, LineError, LineReader, MAX_LINE, Sink, Source};
+use key_store::KeyState;
 use shell_lines::LineStop;
 use std::alloc::{AllocError, Global};
 
@@ -36,7 +38,7 @@ const READ_FAULT_LINE: &[u8] = b"read fault\n";
 
 const NO_MEMORY_LINE: &[u8] = b"no memory\n";
 
-/// Runs a script, prints its replies, and answers the status of the program:
+/// Runs a script over key files and a source of entropy, prints its replies, and answers the status of the program:
 ///
 /// - 0: the script was read to its end.
 /// - 2: `words` aren't those of a command line; the last line of output is the usage.
@@ -44,28 +46,38 @@ const NO_MEMORY_LINE: &[u8] = b"no memory\n";
 /// - 4: the script couldn't be read; the last line is `read fault`.
 /// - 5: a reply couldn't be written.
 /// - 12: an allocation was refused; the last line is `no memory`.
-pub fn run_alone<S: Source, O: Sink>(
+///
+/// A failed taking of key material or entropy is answered by its line's refusal, and listed in `found`.
+pub fn run_alone<S: Source, O: Sink, F: KeyFiles, E: Entropy>(
     alloc: Global,
     words: &[String],
     script: &mut S,
     out: &mut O,
+    files: &mut F,
+    entropy: &mut E,
     found: &mut Found,
 ) -> u8
     requires { found.old ≡ [] }
 
-    // Where the script and the output are told, what was written is the transcript.
-    ensures transcript { IfSome (S.left script.old) (λ bytes. IfSome (O.taken out.old) (λ before. IfSome (O.taken out.new) (λ after.
-        Wrote (transcript words.now bytes found.new) result (Rose (O.faults out.old) (O.faults out.new)) before after))) }
-    ensures answered { IfSome (S.left script.old) (λ bytes. IsAnswered result → (transcript words.now bytes found.new).status ≡ result) }
-    ensures exact { IfSome (S.left script.old) (λ bytes. IfSome (O.taken out.old) (λ before. IfSome (O.taken out.new) (λ after.
-        IsAnswered result → ¬ Rose (O.faults out.old) (O.faults out.new) → after ≡ before ++ output_of (transcript words.now bytes found.new)))) }
+    // Where script, output, key files and entropy are told and no taking failed, what was written is the transcript.
+    ensures transcript { IfSome (S.left script.old) (λ bytes. IfSome (told_world no_keys (F.files files.old) (E.left entropy.old)) (λ w. found.new ≡ [] →
+        IfSome (O.taken out.old) (λ before. IfSome (O.taken out.new) (λ after.
+        Wrote (transcript words.now bytes w) result (Rose (O.faults out.old) (O.faults out.new)) before after)))) }
+    ensures answered { IfSome (S.left script.old) (λ bytes. IfSome (told_world no_keys (F.files files.old) (E.left entropy.old)) (λ w. found.new ≡ [] →
+        IsAnswered result → (transcript words.now bytes w).status ≡ result)) }
+    ensures exact { IfSome (S.left script.old) (λ bytes. IfSome (told_world no_keys (F.files files.old) (E.left entropy.old)) (λ w. found.new ≡ [] →
+        IfSome (O.taken out.old) (λ before. IfSome (O.taken out.new) (λ after.
+        IsAnswered result → ¬ Rose (O.faults out.old) (O.faults out.new) → after ≡ before ++ output_of (transcript words.now bytes w))))) }
+    ensures left { IfSome (S.left script.old) (λ bytes. IfSome (told_world no_keys (F.files files.old) (E.left entropy.old)) (λ w. found.new ≡ [] →
+        IsAnswered result → E.left entropy.new ≡ Some (transcript words.now bytes w).entropy)) }
     ensures read_to_its_end { result ≡ 0 → IfSome (S.left script.old) (λ bytes. S.left script.new ≡ Some []) }
 
     // A script without a bad line is answered where no fault is counted and memory is found.
-    ensures complete { IfSome (S.left script.old) (λ bytes. (transcript words.now bytes found.new).status ≡ 0 →
-        ¬ Rose (S.faults script.old) (S.faults script.new) → ¬ Rose (O.faults out.old) (O.faults out.new) → (result ≡ 0) ⊎ (result ≡ 12)) }
+    ensures complete { IfSome (S.left script.old) (λ bytes. IfSome (told_world no_keys (F.files files.old) (E.left entropy.old)) (λ w. found.new ≡ [] →
+        (transcript words.now bytes w).status ≡ 0 → ¬ Rose (S.faults script.old) (S.faults script.new) → ¬ Rose (O.faults out.old) (O.faults out.new) →
+        (result ≡ 0) ⊎ (result ≡ 12))) }
 
-    // Every other status has its cause.
+    // Every other status has its cause, as has a failed taking.
     ensures statuses { IsAnswered result ⊎ (result ≡ 4) ⊎ (result ≡ 5) ⊎ (result ≡ 12) }
     ensures usage { words.now ≢ [] → result ≡ 2 }
     ensures usage_only { result ≡ 2 → words.now ≢ [] }
@@ -75,80 +87,107 @@ pub fn run_alone<S: Source, O: Sink>(
     ensures no_write_fault { result ≡ 0 → O.faults out.new ≡ O.faults out.old }
     ensures read_faults { S.faults script.old ≤ S.faults script.new }
     ensures write_faults { O.faults out.old ≤ O.faults out.new }
-
-    ensures found { found.new ≡ [] }
+    ensures takings { Lists found.old found.new (F.faults files.old) (F.faults files.new) (E.faults entropy.old) (E.faults entropy.new) }
 {
-    let ending = run_words(alloc, words, script, out);
+    let ending = run_words(alloc, words, script, out, files, entropy, found);
     close(alloc, ending, out).status()
 }
 
 /// Does what the words ask, and says how the run ends.
-fn run_words<S: Source, O: Sink>(
+fn run_words<S: Source, O: Sink, F: KeyFiles, E: Entropy>(
     alloc: Global,
     words: &[String],
     script: &mut S,
     out: &mut O,
+    files: &mut F,
+    entropy: &mut E,
+    found: &mut Found,
 ) -> Ending
-    ensures told { IfSome (S.left script.old) (λ bytes.
-        Ends result (transcript words.now bytes []) (O.taken out.old) (O.taken out.new)) }
+    ensures told { IfSome (S.left script.old) (λ bytes. IfSome (told_world no_keys (F.files files.old) (E.left entropy.old)) (λ w. found.new ≡ found.old →
+        Ends result (transcript words.now bytes w) (O.taken out.old) (O.taken out.new) (E.left entropy.new))) }
     ensures end { result ≡ Ending.Done → IfSome (S.left script.old) (λ bytes. S.left script.new ≡ Some []) }
     ensures usage { words.now ≢ [] → result ≡ Ending.Usage }
     ensures usage_only { result ≡ Ending.Usage → words.now ≢ [] }
     ensures source { SourceFaults (Some result) (S.faults script.old) (S.faults script.new) }
     ensures sink { SinkFaults (Some result) (O.faults out.old) (O.faults out.new) }
+    ensures takings { Lists found.old found.new (F.faults files.old) (F.faults files.new) (E.faults entropy.old) (E.faults entropy.new) }
 {
     match words {
-        [] => run_script(alloc, script, out),
+        [] => run_script(alloc, script, out, files, entropy, found),
         [_, ..] => Ending::Usage,
     }
 }
 
 /// Runs a script, and says how it ended.
-fn run_script<S: Source, O: Sink>(alloc: Global, script: &mut S, out: &mut O) -> Ending
-    ensures told { IfSome (S.left script.old) (λ bytes.
-        Ends result (run_from 1 (lines bytes) (on_host no_datasets)) (O.taken out.old) (O.taken out.new)) }
+fn run_script<S: Source, O: Sink, F: KeyFiles, E: Entropy>(
+    alloc: Global,
+    script: &mut S,
+    out: &mut O,
+    files: &mut F,
+    entropy: &mut E,
+    found: &mut Found,
+) -> Ending
+    ensures told { IfSome (S.left script.old) (λ bytes. IfSome (told_world no_keys (F.files files.old) (E.left entropy.old)) (λ w. found.new ≡ found.old →
+        Ends result (run_from 1 (lines bytes) w) (O.taken out.old) (O.taken out.new) (E.left entropy.new))) }
     ensures end { result ≡ Ending.Done → IfSome (S.left script.old) (λ bytes. S.left script.new ≡ Some []) }
     ensures not_usage { result ≢ Ending.Usage }
     ensures source { SourceFaults (Some result) (S.faults script.old) (S.faults script.new) }
     ensures sink { SinkFaults (Some result) (O.faults out.old) (O.faults out.new) }
+    ensures takings { Lists found.old found.new (F.faults files.old) (F.faults files.new) (E.faults entropy.old) (E.faults entropy.new) }
 {
     match start(alloc) {
-        Ok((mut reader, mut tree)) => run_lines(alloc, 1, &mut tree, &mut reader, script, out),
+        Ok((mut reader, mut keys)) => run_lines(
+            alloc,
+            1,
+            &mut keys,
+            &mut reader,
+            script,
+            out,
+            files,
+            entropy,
+            found,
+        ),
         Err(_) => Ending::NoMemory,
     }
 }
 
-/// A reader that has taken nothing, and a host without datasets.
-fn start(alloc: Global) -> Result<(LineReader, Tree), NoMemory>
-    ensures { IfOk result (λ made. (made.0 ≡ []) × (made.1 ≡ no_datasets)) }
+/// A reader that has taken nothing, and a host that holds nothing.
+fn start(alloc: Global) -> Result<(LineReader, KeyState), NoMemory>
+    ensures { IfOk result (λ made. (made.0 ≡ []) × (made.1 ≡ no_keys)) }
 {
-    let tree = Tree::new(alloc)?;
+    let keys = KeyState::new(alloc)?;
     match LineReader::new(alloc) {
-        Ok(reader) => Ok((reader, tree)),
+        Ok(reader) => Ok((reader, keys)),
         Err(_) => Err(AllocError),
     }
 }
 
 /// Runs the lines from this number on.
-pub(crate) fn run_lines<S: Source, O: Sink>(
+pub(crate) fn run_lines<S: Source, O: Sink, F: KeyFiles, E: Entropy>(
     alloc: Global,
     first: u32,
-    tree: &mut Tree,
+    keys: &mut KeyState,
     reader: &mut LineReader,
     script: &mut S,
     out: &mut O,
+    files: &mut F,
+    entropy: &mut E,
+    found: &mut Found,
 ) -> Ending
     requires { first ≤ MAX_LINES }
-    ensures told { IfSome (unread reader.old (S.left script.old)) (λ bytes.
-        Ends result (run_from first (lines bytes) (on_host tree.old)) (O.taken out.old) (O.taken out.new)) }
+    ensures told { IfSome (unread reader.old (S.left script.old)) (λ bytes. IfSome (told_world keys.old (F.files files.old) (E.left entropy.old)) (λ w. found.new ≡ found.old →
+        Ends result (run_from first (lines bytes) w) (O.taken out.old) (O.taken out.new) (E.left entropy.new))) }
     ensures end { result ≡ Ending.Done → IfSome (unread reader.old (S.left script.old)) (λ bytes. unread reader.new (S.left script.new) ≡ Some []) }
     ensures not_usage { result ≢ Ending.Usage }
     ensures source { SourceFaults (Some result) (S.faults script.old) (S.faults script.new) }
     ensures sink { SinkFaults (Some result) (O.faults out.old) (O.faults out.new) }
+    ensures takings { Lists found.old found.new (F.faults files.old) (F.faults files.new) (E.faults entropy.old) (E.faults entropy.new) }
 {
     let mut reply = Vec::new(alloc);
     for number in first..MAX_LINES + 1 {
-        if let Some(ending) = run_line(alloc, number, tree, reader, &mut reply, script, out) {
+        if let Some(ending) = run_line(
+            alloc, number, keys, reader, &mut reply, script, out, files, entropy, found,
+        ) {
             return ending;
         }
     }
@@ -158,7 +197,7 @@ pub(crate) fn run_lines<S: Source, O: Sink>(
 /// How a run ends that has answered as many lines as a script may have.
 fn end_at_limit<S: Source>(reader: &mut LineReader, script: &mut S) -> Ending
     ensures told { IfSome (unread reader.old (S.left script.old)) (λ bytes. (w : World) →
-        EndsAs result (run_from 1048577 (lines bytes) w) []) }
+        EndsAs result (run_from 1048577 (lines bytes) w) [] w.entropy) }
     ensures end { result ≡ Ending.Done → IfSome (unread reader.old (S.left script.old)) (λ bytes. unread reader.new (S.left script.new) ≡ Some []) }
     ensures not_usage { (result ≢ Ending.Usage) × (result ≢ Ending.WriteFault) }
     ensures source { SourceFaults (Some result) (S.faults script.old) (S.faults script.new) }
@@ -173,25 +212,40 @@ fn end_at_limit<S: Source>(reader: &mut LineReader, script: &mut S) -> Ending
 }
 
 /// Takes a line, carries it out and prints its reply; else says how the run ends.
-fn run_line<S: Source, O: Sink>(
+fn run_line<S: Source, O: Sink, F: KeyFiles, E: Entropy>(
     alloc: Global,
     number: u32,
-    tree: &mut Tree,
+    keys: &mut KeyState,
     reader: &mut LineReader,
     reply: &mut Vec<u8>,
     script: &mut S,
     out: &mut O,
+    files: &mut F,
+    entropy: &mut E,
+    found: &mut Found,
 ) -> Option<Ending>
     requires { number ≤ MAX_LINES }
     ensures told { IfSome (unread reader.old (S.left script.old)) (λ bytes.
-        LineRan result number bytes (unread reader.new (S.left script.new)) tree.old tree.new (O.taken out.old) (O.taken out.new)) }
+        LineRan result number bytes (unread reader.new (S.left script.new)) (told_world keys.old (F.files files.old) (E.left entropy.old))
+        (told_world keys.new (F.files files.new) (E.left entropy.new)) (found.new ≡ found.old) (O.taken out.old) (O.taken out.new)) }
     ensures end { result ≡ Some Ending.Done → IfSome (unread reader.old (S.left script.old)) (λ bytes. unread reader.new (S.left script.new) ≡ Some []) }
     ensures not_usage { result ≢ Some Ending.Usage }
     ensures source { SourceFaults result (S.faults script.old) (S.faults script.new) }
     ensures sink { SinkFaults result (O.faults out.old) (O.faults out.new) }
+    ensures takings { Lists found.old found.new (F.faults files.old) (F.faults files.new) (E.faults entropy.old) (E.faults entropy.new) }
 {
     match take_line(number, reader, script) {
-        Ok(line) => reply_to(alloc, number, tree, line.as_slice(), reply, out),
+        Ok(line) => reply_to(
+            alloc,
+            number,
+            keys,
+            line.as_slice(),
+            reply,
+            out,
+            files,
+            entropy,
+            found,
+        ),
         Err(ending) => Some(ending),
     }
 }
@@ -223,20 +277,25 @@ fn take_line<S: Source>(
 }
 
 /// Carries out a line and prints its reply; else says how the run ends.
-fn reply_to<O: Sink>(
+fn reply_to<O: Sink, F: KeyFiles, E: Entropy>(
     alloc: Global,
     number: u32,
-    tree: &mut Tree,
+    keys: &mut KeyState,
     line: &[u8],
     reply: &mut Vec<u8>,
     out: &mut O,
+    files: &mut F,
+    entropy: &mut E,
+    found: &mut Found,
 ) -> Option<Ending>
     requires { length line.now ≤ 65536 }
-    ensures told { Replied result number (line_of line.now 0) tree.old tree.new (O.taken out.old) (O.taken out.new) }
+    ensures told { Replied result number (line_of line.now 0) (told_world keys.old (F.files files.old) (E.left entropy.old))
+        (told_world keys.new (F.files files.new) (E.left entropy.new)) (found.new ≡ found.old) (O.taken out.old) (O.taken out.new) }
     ensures sink { SinkFaults result (O.faults out.old) (O.faults out.new) }
+    ensures takings { Lists found.old found.new (F.faults files.old) (F.faults files.new) (E.faults entropy.old) (E.faults entropy.new) }
 {
     reply.clear();
-    match answer(alloc, tree, number, line, reply) {
+    match answer(alloc, keys, files, entropy, found, number, line, reply) {
         Ok(()) => match write_all(out, reply.as_slice()) {
             Ok(()) => None,
             Err(_) => Some(Ending::WriteFault),

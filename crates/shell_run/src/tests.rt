@@ -4,8 +4,8 @@ ghost use Rattle.std.specs.Prelude.{None, [], IfOk, ◌≡◌};
 use super::*;
 use crate::ending::Ending;
 use crate::run::{MAX_LINES, run_lines};
-use dataset_tree::Tree;
-use edge_io::{Failed, LineReader, MemSink, MemSource, Source};
+use edge_io::{Failed, LineReader, MemEntropy, MemKeyFiles, MemSink, MemSource, Source};
+use key_store::KeyState;
 use std::alloc::Global;
 use std::test::Fail;
 
@@ -50,6 +50,39 @@ fn nothing_found(alloc: Global) -> Result<Found, Fail>
     }
 }
 
+// The file `/k` of so many bytes `k`, whose calls with a number in a list fail.
+fn key_files(alloc: Global, len: usize, fails: &[u32]) -> Result<MemKeyFiles, Fail> {
+    let mut files = Vec::new(alloc);
+    files.push((String::from_str(alloc, "/k")?, vec![in alloc; b'k'; len]?))?;
+    Ok(MemKeyFiles::new(files, calls_that_fail(alloc, fails)?))
+}
+
+// So many bytes of entropy.
+fn entropy_of(alloc: Global, len: usize) -> Result<MemEntropy, Fail> {
+    Ok(MemEntropy::new(vec![in alloc; 7; len]?, Vec::new(alloc)))
+}
+
+// Runs a script without words over these, and gives its status and how many takings failed.
+fn run_over(
+    alloc: Global,
+    script: &[u8],
+    sink: &mut MemSink,
+    files: &mut MemKeyFiles,
+    entropy: &mut MemEntropy,
+) -> Result<(u8, usize), Fail> {
+    let mut source = MemSource::new(Vec::from_slice(alloc, script)?, Vec::new(alloc));
+    let mut found = nothing_found(alloc)?;
+    let status = run_alone(alloc, &[], &mut source, sink, files, entropy, &mut found);
+    Ok((status, found.entries().len()))
+}
+
+// Runs a script that takes nothing.
+fn run_plain(alloc: Global, script: &[u8], sink: &mut MemSink) -> Result<u8, Fail> {
+    let mut files = key_files(alloc, 0, &[])?;
+    let mut entropy = entropy_of(alloc, 0)?;
+    Ok(run_over(alloc, script, sink, &mut files, &mut entropy)?.0)
+}
+
 const TREE: &[u8] =
     b"create tank\ncreate tank/home\n# a comment\n\ncreate tank/home\ncreate lake/x\nlist";
 
@@ -78,13 +111,99 @@ fn scripts_have_their_transcripts(rt: HostRuntime) -> Result<(), Fail> {
         ),
     ];
     for (script, output, status) in rows {
-        let mut source = MemSource::new(Vec::from_slice(alloc, script)?, Vec::new(alloc));
         let mut sink = MemSink::new(Vec::new(alloc));
-        let mut found = nothing_found(alloc)?;
-        let answered = run_alone(alloc, &[], &mut source, &mut sink, &mut found);
+        assert_eq!(rt; run_plain(alloc, script, &mut sink)?, status);
         assert_eq!(rt; sink.bytes(), output);
-        assert_eq!(rt; answered, status);
-        assert!(rt; found.entries().is_empty());
+    }
+    Ok(())
+}
+
+const KEYS: &[u8] = b"create -o keyformat=raw -o keylocation=file:///k tank
+get keystatus tank
+unload-key tank
+unload-key tank
+get keystatus tank
+load-key tank
+load-key tank
+create p
+load-key p
+create tank/a
+list
+";
+
+const KEYS_REPLIES: &[u8] = b"1 ok
+2 ok available
+3 ok
+4 error 5 KeyUnavailable
+5 ok unavailable
+6 ok
+7 error 6 KeyLoaded
+8 ok
+9 error 8 NotEncrypted
+10 error 37 BadOptions
+11 set tank aes-256-gcm root available
+11 set p plain
+11 ok
+";
+
+#[test]
+fn a_root_is_made_unloaded_and_loaded(rt: HostRuntime) -> Result<(), Fail> {
+    let alloc = rt.alloc();
+    let mut sink = MemSink::new(Vec::new(alloc));
+    let mut files = key_files(alloc, 32, &[])?;
+    let mut entropy = entropy_of(alloc, 32)?;
+    let answered = run_over(alloc, KEYS, &mut sink, &mut files, &mut entropy)?;
+    assert_eq!(rt; answered, (0, 0));
+    assert_eq!(rt; sink.bytes(), KEYS_REPLIES);
+    Ok(())
+}
+
+// Each has a key file of so many bytes, the number of the fetch that fails, and so many bytes of entropy.
+const REFUSED: [(&[u8], usize, u32, usize, &[u8], usize); 4] = [
+    (
+        b"create -o keyformat=raw -o keylocation=file:///k tank\nlist\n",
+        31,
+        99,
+        32,
+        b"1 error 10 BadMaterial short\n2 ok\n",
+        0,
+    ),
+    (
+        b"create -o keylocation=file:///k -o keyformat=raw tank\nlist\n",
+        32,
+        0,
+        32,
+        b"1 error 12 KeyFault\n2 ok\n",
+        1,
+    ),
+    (
+        b"create -o keyformat=raw -o keylocation=file:///other tank\nlist\n",
+        32,
+        99,
+        32,
+        b"1 error 11 KeyFileMissing\n2 ok\n",
+        0,
+    ),
+    (
+        b"create -o keyformat=raw -o keylocation=file:///k tank\nlist\n",
+        32,
+        99,
+        0,
+        b"1 error 13 EntropyFault\n2 ok\n",
+        1,
+    ),
+];
+
+#[test]
+fn a_taking_that_fails_leaves_no_dataset(rt: HostRuntime) -> Result<(), Fail> {
+    let alloc = rt.alloc();
+    for (script, key_len, fails_at, entropy_len, output, failed) in REFUSED {
+        let mut sink = MemSink::new(Vec::new(alloc));
+        let mut files = key_files(alloc, key_len, &[fails_at])?;
+        let mut entropy = entropy_of(alloc, entropy_len)?;
+        let answered = run_over(alloc, script, &mut sink, &mut files, &mut entropy)?;
+        assert_eq!(rt; answered, (0, failed));
+        assert_eq!(rt; sink.bytes(), output);
     }
     Ok(())
 }
@@ -97,10 +216,18 @@ fn every_word_is_usage(rt: HostRuntime) -> Result<(), Fail> {
     let mut source = MemSource::new(Vec::from_slice(alloc, b"list")?, Vec::new(alloc));
     let mut sink = MemSink::new(Vec::new(alloc));
     let mut found = nothing_found(alloc)?;
-    assert_eq!(rt;
-        run_alone(alloc, &words, &mut source, &mut sink, &mut found),
-        2
+    let mut files = key_files(alloc, 0, &[])?;
+    let mut entropy = entropy_of(alloc, 0)?;
+    let status = run_alone(
+        alloc,
+        &words,
+        &mut source,
+        &mut sink,
+        &mut files,
+        &mut entropy,
+        &mut found,
     );
+    assert_eq!(rt; status, 2);
     assert_eq!(rt;
         sink.bytes(),
         b"usage: zfs_shell [--max-salt-uses N] [--generate N]\n".as_slice()
@@ -120,7 +247,17 @@ fn a_failing_source_leaves_a_front_and_the_last_line(rt: HostRuntime) -> Result<
         };
         let mut sink = MemSink::new(Vec::new(alloc));
         let mut found = nothing_found(alloc)?;
-        let status = run_alone(alloc, &[], &mut source, &mut sink, &mut found);
+        let mut files = key_files(alloc, 0, &[])?;
+        let mut entropy = entropy_of(alloc, 0)?;
+        let status = run_alone(
+            alloc,
+            &[],
+            &mut source,
+            &mut sink,
+            &mut files,
+            &mut entropy,
+            &mut found,
+        );
         if source.faults == 0 {
             assert_eq!(rt; (status, sink.bytes()), (0, TREE_REPLIES));
         } else {
@@ -136,10 +273,8 @@ fn a_failing_source_leaves_a_front_and_the_last_line(rt: HostRuntime) -> Result<
 fn a_failing_sink_leaves_a_front(rt: HostRuntime) -> Result<(), Fail> {
     let alloc = rt.alloc();
     for call in 0..6u32 {
-        let mut source = MemSource::new(Vec::from_slice(alloc, TREE)?, Vec::new(alloc));
         let mut sink = MemSink::new(calls_that_fail(alloc, &[call])?);
-        let mut found = nothing_found(alloc)?;
-        let status = run_alone(alloc, &[], &mut source, &mut sink, &mut found);
+        let status = run_plain(alloc, TREE, &mut sink)?;
         let all = sink.bytes().len() == TREE_REPLIES.len();
         assert_eq!(rt; status, if all { 0 } else { 5 });
         assert!(rt; TREE_REPLIES.starts_with(sink.bytes()));
@@ -151,13 +286,8 @@ fn a_failing_sink_leaves_a_front(rt: HostRuntime) -> Result<(), Fail> {
 #[test]
 fn a_sink_that_fails_at_the_last_line_keeps_the_status(rt: HostRuntime) -> Result<(), Fail> {
     let alloc = rt.alloc();
-    let mut source = MemSource::new(Vec::from_slice(alloc, b"list\nfrob\n")?, Vec::new(alloc));
     let mut sink = MemSink::new(calls_that_fail(alloc, &[1])?);
-    let mut found = nothing_found(alloc)?;
-    assert_eq!(rt;
-        run_alone(alloc, &[], &mut source, &mut sink, &mut found),
-        3
-    );
+    assert_eq!(rt; run_plain(alloc, b"list\nfrob\n", &mut sink)?, 3);
     assert_eq!(rt; sink.bytes(), b"1 ok\n".as_slice());
     Ok(())
 }
@@ -171,43 +301,50 @@ fn a_line_has_at_most_65536_bytes(rt: HostRuntime) -> Result<(), Fail> {
     ] {
         let mut script = vec![in alloc; b'#'; length]?;
         script.extend_from_slice(b"\r\nlist\n")?;
-        let mut source = MemSource::new(script, Vec::new(alloc));
         let mut sink = MemSink::new(Vec::new(alloc));
-        let mut found = nothing_found(alloc)?;
-        let answered = run_alone(alloc, &[], &mut source, &mut sink, &mut found);
-        assert_eq!(rt; (answered, sink.bytes()), (status, output));
+        assert_eq!(rt; run_plain(alloc, &script, &mut sink)?, status);
+        assert_eq!(rt; sink.bytes(), output);
     }
     Ok(())
+}
+
+// How a run ends that begins at the last line that a script may have.
+fn run_last(alloc: Global, script: &[u8], sink: &mut MemSink) -> Result<Ending, Fail> {
+    let mut source = MemSource::new(Vec::from_slice(alloc, script)?, Vec::new(alloc));
+    let mut reader = LineReader::new(alloc)?;
+    let mut keys = KeyState::new(alloc)?;
+    let mut files = key_files(alloc, 0, &[])?;
+    let mut entropy = entropy_of(alloc, 0)?;
+    let mut found = nothing_found(alloc)?;
+    Ok(run_lines(
+        alloc,
+        MAX_LINES,
+        &mut keys,
+        &mut reader,
+        &mut source,
+        sink,
+        &mut files,
+        &mut entropy,
+        &mut found,
+    ))
 }
 
 #[test]
 fn a_script_has_at_most_1048576_lines(rt: HostRuntime) -> Result<(), Fail> {
     let alloc = rt.alloc();
     for (script, ends_well) in [(b"list\n".as_slice(), true), (b"list\n\n", false)] {
-        let mut source = MemSource::new(Vec::from_slice(alloc, script)?, Vec::new(alloc));
         let mut sink = MemSink::new(Vec::new(alloc));
-        let mut reader = LineReader::new(alloc)?;
-        let mut tree = Tree::new(alloc)?;
-        let ending = run_lines(
-            alloc,
-            MAX_LINES,
-            &mut tree,
-            &mut reader,
-            &mut source,
-            &mut sink,
-        );
+        let ending = run_last(alloc, script, &mut sink)?;
         assert_eq!(rt; sink.bytes(), b"1048576 ok\n".as_slice());
         assert_eq!(rt; matches!(ending, Ending::Done), ends_well);
-        assert_eq!(rt;
-            matches!(
-                ending,
-                Ending::BadLine {
-                    number: 1048577,
-                    at: 0
-                }
-            ),
-            !ends_well
+        let is_past = matches!(
+            ending,
+            Ending::BadLine {
+                number: 1048577,
+                at: 0
+            }
         );
+        assert_eq!(rt; is_past, !ends_well);
     }
     Ok(())
 }

@@ -1,10 +1,11 @@
-//! The shell over the real outside: the words of the command line, standard input and standard output.
+//! The shell over the real outside: the words of the command line, standard input and output, key files by path, and the
+//! system's random bytes.
 #![tactic(auto)]
 
 ghost use Rattle.std.specs.Prelude.{◌≡◌, [], IfOk};
 
 use dataset_tree::NoMemory;
-use edge_io::{Reading, Writing};
+use edge_io::{Reading, SystemEntropy, SystemKeyFiles, Writing};
 use shell_run::{Found, run_alone};
 use std::alloc::{AllocError, Global};
 use std::env;
@@ -21,7 +22,17 @@ fn main(rt: HostRuntime) -> ExitCode {
         Ok((words, mut found)) => {
             let mut script = Reading::new(rt.stdin());
             let mut out = Writing::new(rt.stdout());
-            let status = run_alone(alloc, &words, &mut script, &mut out, &mut found);
+            let mut files = SystemKeyFiles::new(&rt);
+            let mut entropy = SystemEntropy::new(&rt);
+            let status = run_alone(
+                alloc,
+                &words,
+                &mut script,
+                &mut out,
+                &mut files,
+                &mut entropy,
+                &mut found,
+            );
             ExitCode::from(status)
         }
         Err(_) => {

@@ -5,4 +5,4 @@ use Rattle.shell_run.proofs.reply.push_sets.Given as goal
 
 -- the rows so far
 abbrev pub invariant-loop-row : goal.invariant-loop-row
-invariant-loop-row l = l.text.items ≡ l.fn.text.items ++ flat_map (set_line l.line) (take l.row-index l.rows)
+invariant-loop-row l = l.text.items ≡ l.fn.text.items ++ flat_map (set_line l.line l.keys) (take l.row-index l.row-items)

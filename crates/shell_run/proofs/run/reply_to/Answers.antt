@@ -4,10 +4,10 @@ use Rattle.shell_run.proofs.run.reply_to.Goals as goal
 
 pub returns-in-Ok-write_all-clause-told : goal.returns-in-Ok-write_all-clause-told
 returns-in-Ok-write_all-clause-told g c =
-    replied_all c.args.number (line_of c.args.line.now 0) c.args.tree.now c.answer.new.tree c.answer.new.output.items _ _
-    (rw c.clear.ensures.items at c.in-Ok.ensures) (rw c.as_slice.ensures.value at c.in-Ok-write_all.ensures.written)
+    replied_all c.args.number (line_of c.args.line.now 0) _ _ _ c.answer.new.output.items _ _
+    (rw c.clear.ensures.items at c.in-Ok.ensures.told) (rw c.as_slice.ensures.value at c.in-Ok-write_all.ensures.written)
 
 pub returns-in-Err-clause-told : goal.returns-in-Err-clause-told
 returns-in-Err-clause-told g c =
-    replied_part c.args.number (line_of c.args.line.now 0) c.args.tree.now c.answer.new.tree c.answer.new.output.items _ _
-    (rw c.clear.ensures.items at c.in-Ok.ensures) (rw c.as_slice.ensures.value at c.write_all.ensures.part)
+    replied_part c.args.number (line_of c.args.line.now 0) _ _ _ c.answer.new.output.items _ _
+    (rw c.clear.ensures.items at c.in-Ok.ensures.told) (rw c.as_slice.ensures.value at c.write_all.ensures.part)
