@@ -17,7 +17,7 @@ ghost use Rattle.encryption_roots.specs.declared.props.Location.{Location};
 ghost use Rattle.wrapped_keys.specs.Stored.{parsed_record};
 
 use crate::material::fetched_key;
-use crate::needs::{is_passphrase, place_or_prompt};
+use crate::needs::place_or_prompt;
 use crate::seeds::{first_vector, seeded_master, seeded_salt};
 use crate::state::{FamilyRecord, KeyState};
 use dataset_tree::{Format, Kind, NoMemory, RecordBytes, Refusal, SetName, Stop, Suite, Tree};

@@ -1,5 +1,5 @@
 // Wrapping keys from fetched material.
-ghost use Rattle.std.specs.Prelude.{◌≡◌, ℕ, length};
+ghost use Rattle.std.specs.Prelude.{◌≡◌, ℕ};
 ghost use Rattle.key_machine.specs.Told.{key_of};
 ghost use Rattle.key_store.specs.Ciphers.{ciphers, raw_key, wrapping_key};
 

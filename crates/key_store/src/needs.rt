@@ -3,7 +3,7 @@ ghost use Rattle.std.specs.Prelude.{◌≡◌, ◌∷◌, [], false, unwrap_or, 
 ghost use Rattle.std.specs.Option.{option_copied};
 ghost use Rattle.dataset_tree.specs.Refusal.{Gives};
 ghost use Rattle.encryption_roots.specs.declared.command.KeyCmd.TheVariants as commands;
-ghost use Rattle.key_machine.specs.Needs.{wanted, makes_root, makes_heir, makes_encrypted, nothing_wanted, own_place, parent_row};
+ghost use Rattle.key_machine.specs.Needs.{wanted, makes_heir, makes_encrypted, nothing_wanted, own_place, parent_row};
 ghost use Rattle.key_machine.specs.Refusals.{refusal_of, first_of, create_cases, root_cases, load_cases, unload_cases, get_cases, is_passphrase, are_bad_options, are_bad_iterations, has_parent_key, is_root_row, is_loaded_row};
 ghost use Rattle.key_store.specs.Calls.{needed, needs_of};
 
@@ -264,7 +264,7 @@ impl KeyState {
     }
 }
 
-pub(crate) fn is_passphrase(format: Option<Format>) -> bool
+fn is_passphrase(format: Option<Format>) -> bool
     ensures { result ≡ is_passphrase format }
 {
     format == Some(Format::Passphrase)

@@ -1,12 +1,11 @@
 // The state of a keystore.
 ghost use Rattle.std.specs.Prelude.{◌≡◌, IfOk};
 ghost use Rattle.std.specs.List.{All};
-ghost use Rattle.dataset_tree.specs.Tree.{IsTree};
 ghost use Rattle.encryption_roots.specs.Props.{KeepsIterations};
 ghost use Rattle.key_machine.specs.Plain.{no_keys, has_key};
 
 use dataset_tree::{NoMemory, RecordBytes, Tree};
-use encryption_roots::{Roots, at_id, owner_of};
+use encryption_roots::{Roots, owner_of};
 use std::alloc::Global;
 use std::marker::Model;
 

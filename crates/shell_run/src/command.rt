@@ -1,8 +1,7 @@
 // A key command: what it takes, and what it does.
-ghost use Rattle.std.specs.Prelude.{◌≡◌, true, is_some, IfOk, IfSome, OnOk, OnErr};
+ghost use Rattle.std.specs.Prelude.{◌≡◌, true, is_some, IfOk, IfSome, OnOk};
 ghost use Rattle.dataset_tree.specs.Refusal.{Gives};
 ghost use Rattle.edge_io.specs.Faults.{Rose};
-ghost use Rattle.encryption_roots.specs.RecordSize.{IsRecordSize};
 ghost use Rattle.key_machine.specs.Fair.{Suffices, WasAsked, SeedWasAsked};
 ghost use Rattle.key_store.specs.Calls.{stepped, state_after};
 ghost use Rattle.shell_run.specs.Takings.{Found as Lists, FoundBy, ListsOne, ListsKit, HasSize, HasWanted, Executes, shown_of};
