@@ -5,7 +5,6 @@ use Rattle.edge_io.specs.declared.errors.FetchError.{FetchError}
 use Rattle.edge_io.specs.declared.errors.FetchError.TheVariants as errors
 use Rattle.edge_io.specs.declared.key_files.TheConstants.{MAX_KEY_FILE}
 use Rattle.edge_io.specs.Faults.{Rose}
-use Rattle.edge_io.specs.Told.{StillTold}
 
 -- the bytes of the file at a path: of several files of one path the first counts
 abbrev pub file_at : List ℕ → List (List ℕ × List ℕ) → Option (List ℕ)
@@ -21,13 +20,6 @@ FetchGives (Ok bytes) there = there ≡ Some bytes.items
 FetchGives (Err errors.Missing) there = there ≡ None
 FetchGives (Err errors.Failed) there = ⊤
 FetchGives (Err errors.NoMemory) there = ⊤
-
--- A fetch changes nothing that is told; where it failed, less may be told from then on.
-abbrev pub FetchKeeps : {A T : Type 0} → Option A → Option A → Result T FetchError → Type 0
-FetchKeeps before now (Ok _) = now ≡ before
-FetchKeeps before now (Err errors.Missing) = now ≡ before
-FetchKeeps before now (Err errors.Failed) = StillTold before now
-FetchKeeps before now (Err errors.NoMemory) = now ≡ before
 
 -- The count of faults rises where a fetch failed, and stays as it was at any other answer.
 abbrev pub FetchCounts : {T : Type 0} → ℕ → ℕ → Result T FetchError → Type 0

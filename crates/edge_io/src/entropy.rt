@@ -3,7 +3,6 @@ ghost use Rattle.std.specs.Prelude.{◌≡◌, ℕ, List, IfSome, OnErr, OnOk};
 ghost use Rattle.std.specs.declared.option.Option.{Option};
 ghost use Rattle.edge_io.specs.Entropy.{MovesNext};
 ghost use Rattle.edge_io.specs.Faults.{HasCause};
-ghost use Rattle.edge_io.specs.Told.{StillTold};
 
 use crate::Failed;
 
@@ -18,7 +17,7 @@ pub trait Entropy {
     /// Moves the next 32 bytes to `out`. Where fewer are left, the call fails. A call that fails moves nothing.
     fn fill(&mut self, out: &mut [u8; 32]) -> Result<(), Failed>
         ensures moved { OnOk result (IfSome (left self.old) (λ bytes. MovesNext bytes (left self.new) out.new)) }
-        ensures failed { OnErr result (StillTold (left self.old) (left self.new)) }
+        ensures failed { OnErr result (left self.new ≡ left self.old) }
         ensures untouched { OnErr result (out.new ≡ out.old) }
         ensures cause { HasCause (faults self.old) (faults self.new) result };
 }

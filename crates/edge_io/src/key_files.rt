@@ -1,7 +1,7 @@
 // Where key files come from.
-ghost use Rattle.std.specs.Prelude.{◌≤◌, ℕ, List, length, IfOk, IfSome};
+ghost use Rattle.std.specs.Prelude.{◌≡◌, ◌≤◌, ℕ, List, length, IfOk, IfSome};
 ghost use Rattle.std.specs.declared.option.Option.{Option};
-ghost use Rattle.edge_io.specs.KeyFiles.{FetchCounts, FetchGives, FetchKeeps, fetched};
+ghost use Rattle.edge_io.specs.KeyFiles.{FetchCounts, FetchGives, fetched};
 
 use crate::FetchError;
 use std::alloc::Global;
@@ -22,6 +22,6 @@ pub trait KeyFiles {
     fn fetch(&mut self, alloc: Global, path: &str) -> Result<Vec<u8>, FetchError>
         ensures gives { IfSome (files self.old) (λ files. FetchGives result (fetched path.now files)) }
         ensures short { IfOk result (λ bytes. length bytes.items ≤ MAX_KEY_FILE) }
-        ensures told { FetchKeeps (files self.old) (files self.new) result }
+        ensures told { files self.new ≡ files self.old }
         ensures cause { FetchCounts (faults self.old) (faults self.new) result };
 }

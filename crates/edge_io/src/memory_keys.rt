@@ -2,9 +2,8 @@
 ghost use Rattle.std.specs.Prelude.{◌≡◌, ◌↔◌, ◌<◌, ◌≤◌, ◌⊎◌, Some, length, take, find, bytes_eq, option_map, string_bytes, is_err, IsTrue, IsErr, IfOk, IfSome, OnErr, OnOk, Contains};
 ghost use Rattle.edge_io.specs.Entropy.{MovesNext};
 ghost use Rattle.edge_io.specs.Faults.{HasCause};
-ghost use Rattle.edge_io.specs.KeyFiles.{FetchCounts, FetchGives, FetchKeeps, fetched, file_at, plain_files};
+ghost use Rattle.edge_io.specs.KeyFiles.{FetchCounts, FetchGives, fetched, file_at, plain_files};
 ghost use Rattle.edge_io.specs.Memory.{CountsCall, after_fetch, is_failed};
-ghost use Rattle.edge_io.specs.Told.{StillTold};
 
 use crate::calls::Calls;
 use crate::{Entropy, Failed, FetchError, KeyFiles, MAX_KEY_FILE};
@@ -54,7 +53,7 @@ impl KeyFiles for MemKeyFiles {
     fn fetch(&mut self, alloc: Global, path: &str) -> Result<Vec<u8>, FetchError>
         ensures gives { IfSome (Some self.old.files) (λ files. FetchGives result (fetched path.now files)) }
         ensures short { IfOk result (λ bytes. length bytes.items ≤ MAX_KEY_FILE) }
-        ensures told { FetchKeeps (Some self.old.files) (Some self.new.files) result }
+        ensures told { Some self.new.files ≡ Some self.old.files }
         ensures cause { FetchCounts self.old.faults self.new.faults result }
 
         ensures listed { IsTrue (is_failed result) ↔ Contains self.old.fails self.old.calls }
@@ -140,7 +139,7 @@ impl Entropy for MemEntropy {
     /// Fails at the listed calls and where fewer than 32 bytes are left, and at no other.
     fn fill(&mut self, out: &mut [u8; 32]) -> Result<(), Failed>
         ensures moved { OnOk result (IfSome (Some self.old.bytes) (λ bytes. MovesNext bytes (Some self.new.bytes) out.new)) }
-        ensures failed { OnErr result (StillTold (Some self.old.bytes) (Some self.new.bytes)) }
+        ensures failed { OnErr result (Some self.new.bytes ≡ Some self.old.bytes) }
         ensures untouched { OnErr result (out.new ≡ out.old) }
         ensures cause { HasCause self.old.faults self.new.faults result }
 

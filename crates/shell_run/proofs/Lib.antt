@@ -3,3 +3,4 @@ pub mod TakingLemmas
 pub mod CommandLemmas
 pub mod FaultLemmas
 pub mod RunLemmas
+pub mod EndingLemmas

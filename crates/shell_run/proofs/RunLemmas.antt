@@ -1,10 +1,11 @@
 -- One line of a run, and many.
-use Rattle.std.proofs.Common.{◌≡◌, ◌⊎◌, ℕ, ◌+◌, ◌<◌, ◌≤◌, nat_lt, true, false, List, [], ◌∷◌, ◌++◌, length, drop, Option, Some, None, Result, Ok, Err, IfSome, IsSomeAnd, OnOk, refl, ap, sym, ◌∙◌, subst, append_assoc, arith, inl, inr, ⊎_elim}
+use Rattle.std.proofs.Common.{◌≡◌, ◌⊎◌, ℕ, zero, suc, ◌+◌, ◌<◌, ◌≤◌, nat_lt, true, false, List, [], ◌∷◌, ◌++◌, length, drop, Option, Some, None, Result, Ok, Err, IfSome, IsSomeAnd, OnOk, refl, ap, sym, ◌∙◌, subst, append_assoc, arith, inl, inr, ⊎_elim}
 use Rattle.std.specs.Io.KnownBytes.{Appends}
+use Rattle.std.specs.List.{AllByRecursion}
+use Rattle.std.proofs.lemmas.Bool.{cases_Bool}
 use Rattle.std.proofs.lemmas.Bool.Decides.{nat_tests}
 use Rattle.key_machine.specs.Plain.{Plain}
 use Rattle.edge_io.specs.Faults.{HasCause, Rose}
-use Rattle.edge_io.specs.Told.{unread}
 use Rattle.edge_io.specs.Lines.{lines, first_line, next_line, rest_of}
 use Rattle.edge_io.proofs.LinesLemmas.{lines_next}
 use Rattle.edge_io.specs.declared.errors.Failed.{Failed}
@@ -12,12 +13,17 @@ use Rattle.shell_lines.specs.declared.line.Line.{Line}
 use Rattle.shell_lines.specs.Grammar.{line_of}
 use Rattle.shell_run.specs.declared.ending.Ending.{Ending}
 use Rattle.shell_run.specs.declared.ending.Ending.TheVariants.{Done, Usage, BadLine, ReadFault, WriteFault, NoMemory}
-use Rattle.shell_run.specs.Answers.{AnswersTo}
-use Rattle.shell_run.specs.Endings.{EndsAs, Leaves, SourceFaults, SinkFaults, status_of, closing_line, ClosesAs}
-use Rattle.shell_run.specs.Progress.{Goes, Ends, Taken, Took, TookFront, Closes, TakesLine, TakesNone, Replied, LineRan, entropy_of}
-use Rattle.shell_run.specs.Texts.{bad_line, usage_line, read_fault_line, no_memory_line}
-use Rattle.shell_run.specs.Transcript.{World, told_world, Run, output_of, preceded, goes_on, checked, run_within, run_from, answer_of}
-use Rattle.shell_run.specs.Written.{IsFront, IsAnswered, Wrote, last_line}
+use Rattle.shell_run.specs.declared.found.FoundEntry.{FoundEntry}
+use Rattle.shell_run.specs.Answers.{AnswersTo, listed_after}
+use Rattle.shell_run.specs.Endings.{EndsAs, IsEnd, Leaves}
+use Rattle.shell_run.specs.Failing.{Failing, failing, since, failing_since}
+use Rattle.shell_run.specs.Progress.{Goes, Ends, Taken, TookFront, Closes, TakesLine, TakesNone, Replied, LineRan, AgreesAt, IsSilentFrom, entropy_of}
+use Rattle.shell_run.specs.Takings.{Lists}
+use Rattle.shell_run.specs.Texts.{bad_line}
+use Rattle.shell_run.specs.Transcript.{World, told_world, Run, over, preceded, goes_on, checked, run_within, run_from, answer_of}
+use Rattle.shell_run.specs.Written.{IsFront}
+use Rattle.shell_run.proofs.CommandLemmas.{quiet_line}
+use Rattle.shell_run.proofs.TakingLemmas.{since_both, since_none, failing_first, failing_second, failing_none, all_weaker}
 use Rattle.shell_run.proofs.WritingLemmas.{append_nil, Appends-nil, Appends-append, Took-after, Took-from_Appends}
 
 -- taking a line
@@ -45,19 +51,48 @@ closes (Err failed) line t0 t1 before now written part cause = record { part = p
 
 -- answering a line
 
-pub replied_all : (n : ℕ) (o : Result Line ℕ) (old new : Option World) (kept : Type 0) (reply : List ℕ) (t0 t1 : Option (List ℕ)) → AnswersTo n o old new kept [] reply (Ok tt) → Appends t0 t1 reply
-    → Replied None n o old new kept t0 t1
-replied_all n (Ok line) None new kept reply t0 t1 answered written = tt
-replied_all n (Ok line) (Some w) new kept reply t0 t1 answered written =
-    λ same. let P : List ℕ → Type 0 = λ bytes. Appends t0 t1 bytes in ((answered same).0, subst P (answered same).1 written)
-replied_all n (Err at) old new kept reply t0 t1 answered written = absurd answered
+pub replied_all : (n : ℕ) (fails : Failing) (o : Result Line ℕ) (old new : Option World) (reply : List ℕ) (t0 t1 : Option (List ℕ)) → AnswersTo n fails o old new [] reply (Ok tt) → Appends t0 t1 reply
+    → Replied None n fails o old new t0 t1
+replied_all n fails (Ok line) None new reply t0 t1 answered written = tt
+replied_all n fails (Ok line) (Some w) new reply t0 t1 answered written = let P : List ℕ → Type 0 = λ bytes. Appends t0 t1 bytes in (answered.0, subst P answered.1 written)
+replied_all n fails (Err at) old new reply t0 t1 answered written = absurd answered
 
-pub replied_part : (n : ℕ) (o : Result Line ℕ) (old new : Option World) (kept : Type 0) (reply : List ℕ) (t0 t1 : Option (List ℕ)) → AnswersTo n o old new kept [] reply (Ok tt) → TookFront reply t0 t1
-    → Replied (Some WriteFault) n o old new kept t0 t1
-replied_part n (Ok line) None new kept reply t0 t1 answered part = tt
-replied_part n (Ok line) (Some w) new kept reply t0 t1 answered part =
-    λ same. let P : List ℕ → Type 0 = λ bytes. TookFront bytes t0 t1 in subst P (answered same).1 part
-replied_part n (Err at) old new kept reply t0 t1 answered part = absurd answered
+pub replied_part : (n : ℕ) (fails : Failing) (o : Result Line ℕ) (old new : Option World) (reply : List ℕ) (t0 t1 : Option (List ℕ)) → AnswersTo n fails o old new [] reply (Ok tt) → TookFront reply t0 t1
+    → Replied (Some WriteFault) n fails o old new t0 t1
+replied_part n fails (Ok line) None new reply t0 t1 answered part = tt
+replied_part n fails (Ok line) (Some w) new reply t0 t1 answered part = let P : List ℕ → Type 0 = λ bytes. TookFront bytes t0 t1 in subst P answered.1 part
+replied_part n fails (Err at) old new reply t0 t1 answered part = absurd answered
+
+-- a list that says nothing of the lines to come lists nothing more
+
+silent_here : (n : ℕ) (found : List FoundEntry) → failing n found ≡ failing n [] → IsSilentFrom (n + 1) found → IsSilentFrom n found
+silent_here n found here later m past =
+    ⊎_elim (λ (more : nat_lt n m ≡ true). later m (grind (arith, nat_tests)))
+    (λ (no_more : nat_lt n m ≡ false). let same : n ≡ m = grind (arith, nat_tests) in subst (λ k. failing k found ≡ failing k []) same here) (cases_Bool (nat_lt n m))
+
+quiet_turn : (n : ℕ) (found : List FoundEntry) (w : World) (line : Line) → failing n found ≡ failing n [] → (answer_of n (failing n found) w line).world.failed ≡ w.failed
+quiet_turn n found w line silent = ap (λ (fails : Failing). (answer_of n fails w line).world.failed) silent ∙ quiet_line n n w line
+
+failed_on : (n : ℕ) (found : List FoundEntry) (w : World) (o : Result Line ℕ) (later : List (List ℕ)) (rest : World → ℕ → Run) → ((v : World) → (rest v 1).failed ≡ v.failed)
+    → (goes_on n found w o later rest).failed ≡ listed_after n (failing n found) w o
+failed_on n found w (Ok line) later rest quiet = quiet (answer_of n (failing n found) w line).world
+failed_on n found w (Err at) later rest quiet = refl
+
+quiet_outcome : (n : ℕ) (found : List FoundEntry) (w : World) (o : Result Line ℕ) → failing n found ≡ failing n [] → listed_after n (failing n found) w o ≡ w.failed
+quiet_outcome n found w (Ok line) silent = quiet_turn n found w line silent
+quiet_outcome n found w (Err at) silent = refl
+
+quiet_within : (bound n : ℕ) (ls : List (List ℕ)) (found : List FoundEntry) (w : World) → IsSilentFrom n found → (run_within bound n ls found w).failed ≡ w.failed
+quiet_within zero n [] found w silent = refl
+quiet_within (suc bound) n [] found w silent = refl
+quiet_within zero n (bytes ∷ later) found w silent = refl
+quiet_within (suc bound) n (bytes ∷ later) found w silent =
+    failed_on n found w (checked n bytes) later (λ v taken. run_within bound (n + taken) (drop taken (bytes ∷ later)) found v)
+    (λ v. quiet_within bound (n + 1) (drop 1 (bytes ∷ later)) found v (λ m past. silent m (omega (arith, past))))
+    ∙ quiet_outcome n found w (checked n bytes) (silent n (omega arith))
+
+pub quiet_from : (n : ℕ) (ls : List (List ℕ)) (found : List FoundEntry) (w : World) → IsSilentFrom n found → (run_from n ls found w).failed ≡ w.failed
+quiet_from n ls found w silent = quiet_within (length ls) n ls found w silent
 
 -- from a line to the rest of the run
 
@@ -70,63 +105,76 @@ checked_line n line few short =
     let fits : nat_lt 65536 (length line) ≡ false = grind (arith, nat_tests) in
     rw (within, fits) refl
 
-one_line_goes : (n : ℕ) (o : Result Line ℕ) (later : List (List ℕ)) (rest : World → ℕ → Run) (w : World) (new : Option World) (kept : Type 0) (t0 t1 : Option (List ℕ)) → Replied None n o (Some w) new kept t0 t1
-    → kept → IsSomeAnd new (λ v. Goes (goes_on n w o later rest) (rest v 1) t0 t1)
-one_line_goes n (Ok line) later rest w None kept t0 t1 replied same = absurd (let none : None ≡ Some (answer_of n w line).world = (replied same).0 in cc)
-one_line_goes n (Ok line) later rest w (Some v) kept t0 t1 replied same = record {
-  replies = (answer_of n w line).output;
-  taken = (replied same).1;
+one_line_goes : (n : ℕ) (found : List FoundEntry) (o : Result Line ℕ) (later : List (List ℕ)) (rest : World → ℕ → Run) (w : World) (new : Option World) (t0 t1 : Option (List ℕ))
+    → Replied None n (failing n found) o (Some w) new t0 t1 → IsSomeAnd new (λ v. Goes (goes_on n found w o later rest) (rest v 1) t0 t1)
+one_line_goes n found (Ok line) later rest w None t0 t1 replied = absurd (let none : None ≡ Some (answer_of n (failing n found) w line).world = replied.0 in cc)
+one_line_goes n found (Ok line) later rest w (Some v) t0 t1 replied = record {
+  replies = (answer_of n (failing n found) w line).output;
+  taken = replied.1;
   goes_on =
-      let there : Some v ≡ Some (answer_of n w line).world = (replied same).0 in
-      let world : (answer_of n w line).world ≡ v = cc in
-      ap (λ t. preceded (answer_of n w line).output (rest t 1)) world;
+      let there : Some v ≡ Some (answer_of n (failing n found) w line).world = replied.0 in
+      let world : (answer_of n (failing n found) w line).world ≡ v = cc in
+      ap (λ t. preceded (answer_of n (failing n found) w line).output (rest t 1)) world;
 }
-one_line_goes n (Err at) later rest w new kept t0 t1 replied same = absurd replied
+one_line_goes n found (Err at) later rest w new t0 t1 replied = absurd replied
 
-one_line_ends : (e : Ending) (n : ℕ) (o : Result Line ℕ) (later : List (List ℕ)) (rest : World → ℕ → Run) (w : World) (new : Option World) (kept : Type 0) (t0 t1 : Option (List ℕ))
-    → Replied (Some e) n o (Some w) new kept t0 t1 → kept → Ends e (goes_on n w o later rest) t0 t1 (entropy_of new)
-one_line_ends Done n o later rest w new kept t0 t1 replied same = absurd replied
-one_line_ends Usage n o later rest w new kept t0 t1 replied same = absurd replied
-one_line_ends ReadFault n o later rest w new kept t0 t1 replied same = absurd replied
-one_line_ends WriteFault n (Ok line) later rest w new kept t0 t1 replied same = record {
-  replies = (replied same).part;
+bad_end : (n at : ℕ) (w : World) → IsEnd (over 3 (bad_line n at) w) 3 [] (bad_line n at) w.entropy
+bad_end n at w = record { status = refl; replies = refl; last = refl; entropy = refl }
+
+one_line_ends : (e : Ending) (n : ℕ) (found : List FoundEntry) (o : Result Line ℕ) (later : List (List ℕ)) (rest : World → ℕ → Run) (w : World) (new : Option World) (after : List FoundEntry) (t0 t1 : Option (List ℕ))
+    → Replied (Some e) n (failing n found) o (Some w) new t0 t1 → (goes_on n found w o later rest).failed ≡ after → Ends e (goes_on n found w o later rest) t0 t1 (entropy_of new) after
+one_line_ends Done n found o later rest w new after t0 t1 replied failed = absurd replied
+one_line_ends Usage n found o later rest w new after t0 t1 replied failed = absurd replied
+one_line_ends ReadFault n found o later rest w new after t0 t1 replied failed = absurd replied
+one_line_ends WriteFault n found (Ok line) later rest w new after t0 t1 replied failed = record {
+  replies = replied.part;
   entropy = [];
-  taken = (replied same).taken;
+  taken = replied.taken;
   ends =
-      let after : List ℕ = (rest (answer_of n w line).world 1).replies in
-      ((replied same).front.0 ++ after, ap (λ bytes. bytes ++ after) (replied same).front.1 ∙ append_assoc (replied same).part (replied same).front.0 after);
+      let more : List ℕ = (rest (answer_of n (failing n found) w line).world 1).replies in
+      (replied.front.0 ++ more, ap (λ bytes. bytes ++ more) replied.front.1 ∙ append_assoc replied.part replied.front.0 more);
   leaves = tt;
+  failed = failed;
 }
-one_line_ends WriteFault n (Err at) later rest w new kept t0 t1 replied same = absurd replied
-one_line_ends NoMemory n o later rest w new kept t0 t1 replied same =
-    record { replies = []; entropy = []; taken = took_nothing t0 t1 replied; ends = ((goes_on n w o later rest).replies, refl); leaves = tt }
-one_line_ends (BadLine number at) n o later rest w new kept t0 t1 replied same = record {
+one_line_ends WriteFault n found (Err at) later rest w new after t0 t1 replied failed = absurd replied
+one_line_ends NoMemory n found o later rest w new after t0 t1 replied failed =
+    record { replies = []; entropy = []; taken = took_nothing t0 t1 replied; ends = ((goes_on n found w o later rest).replies, refl); leaves = tt; failed = failed }
+one_line_ends (BadLine number at) n found o later rest w new after t0 t1 replied failed = record {
   replies = [];
   entropy = w.entropy;
   taken = took_nothing t0 t1 replied.2;
   ends =
-      let P : Result Line ℕ → Type 0 = λ outcome. goes_on n w outcome later rest ≡ record { status = 3; replies = []; last = bad_line number at; entropy = w.entropy } in
-      subst P (sym replied.1) (ap (λ m. let run : Run = record { status = 3; replies = []; last = bad_line m at; entropy = w.entropy } in run) (sym replied.0));
+      let P : Result Line ℕ → Type 0 = λ outcome. IsEnd (goes_on n found w outcome later rest) 3 [] (bad_line number at) w.entropy in
+      let Q : ℕ → Type 0 = λ m. IsEnd (over 3 (bad_line n at) w) 3 [] (bad_line m at) w.entropy in
+      subst P (sym replied.1) (subst Q (sym replied.0) (bad_end n at w));
   leaves = ap entropy_of replied.3;
+  failed = failed;
 }
 
-pub line_ran : (told left : Option (List ℕ)) (n : ℕ) (line : List ℕ) (r : Option Ending) (old new : Option World) (kept : Type 0) (t0 t1 : Option (List ℕ)) → n ≤ 1048576 → length line ≤ 65536
-    → IfSome told (λ bytes. TakesLine line bytes left) → Replied r n (line_of line 0) old new kept t0 t1 → IfSome told (λ bytes. LineRan r n bytes left old new kept t0 t1)
-line_ran None left n line r old new kept t0 t1 few short takes replied = tt
-line_ran (Some bytes) None n line r old new kept t0 t1 few short takes replied = absurd takes
-line_ran (Some bytes) (Some rest) n line None None new kept t0 t1 few short takes replied = tt
-line_ran (Some bytes) (Some rest) n line None (Some w) new kept t0 t1 few short takes replied =
-    rw (takes, checked_line n line few short) (one_line_goes n (line_of line 0) (lines rest) (λ v taken. run_within (length (lines rest)) (n + taken) (drop taken (line ∷ lines rest)) v) w new kept t0 t1 replied)
-line_ran (Some bytes) (Some rest) n line (Some e) None new kept t0 t1 few short takes replied = tt
-line_ran (Some bytes) (Some rest) n line (Some e) (Some w) new kept t0 t1 few short takes replied =
-    rw (takes, checked_line n line few short) (one_line_ends e n (line_of line 0) (lines rest) (λ v taken. run_within (length (lines rest)) (n + taken) (drop taken (line ∷ lines rest)) v) w new kept t0 t1 replied)
+pub line_ran : (told left : Option (List ℕ)) (n : ℕ) (line : List ℕ) (r : Option Ending) (old new : Option World) (a b : List FoundEntry) (t0 t1 : Option (List ℕ)) → n ≤ 1048576 → length line ≤ 65536
+    → IfSome told (λ bytes. TakesLine line bytes left) → Replied r n (failing_since n a b) (line_of line 0) old new t0 t1 → IfSome old (λ w. b ≡ listed_after n (failing_since n a b) w (line_of line 0))
+    → IfSome told (λ bytes. LineRan r n bytes left old new (since a b) b t0 t1)
+line_ran None left n line r old new a b t0 t1 few short takes replied listed = tt
+line_ran (Some bytes) None n line r old new a b t0 t1 few short takes replied listed = absurd takes
+line_ran (Some bytes) (Some rest) n line None None new a b t0 t1 few short takes replied listed = tt
+line_ran (Some bytes) (Some rest) n line None (Some w) new a b t0 t1 few short takes replied listed = λ found agrees.
+    let here : Replied None n (failing n found) (line_of line 0) (Some w) new t0 t1 = subst (λ (fails : Failing). Replied None n fails (line_of line 0) (Some w) new t0 t1) (sym agrees) replied in
+    rw (takes, checked_line n line few short) (one_line_goes n found (line_of line 0) (lines rest) (λ v taken. run_within (length (lines rest)) (n + taken) (drop taken (line ∷ lines rest)) found v) w new t0 t1 here)
+line_ran (Some bytes) (Some rest) n line (Some e) None new a b t0 t1 few short takes replied listed = tt
+line_ran (Some bytes) (Some rest) n line (Some e) (Some w) new a b t0 t1 few short takes replied listed = λ found agrees silent.
+    let here : Replied (Some e) n (failing n found) (line_of line 0) (Some w) new t0 t1 = subst (λ (fails : Failing). Replied (Some e) n fails (line_of line 0) (Some w) new t0 t1) (sym agrees) replied in
+    let after : b ≡ listed_after n (failing n found) w (line_of line 0) = subst (λ (fails : Failing). b ≡ listed_after n fails w (line_of line 0)) (sym agrees) listed in
+    let rest_of_run : World → ℕ → Run = λ v taken. run_within (length (lines rest)) (n + taken) (drop taken (line ∷ lines rest)) found v in
+    let failed : (goes_on n found w (line_of line 0) (lines rest) rest_of_run).failed ≡ b =
+    failed_on n found w (line_of line 0) (lines rest) rest_of_run (λ v. quiet_within (length (lines rest)) (n + 1) (drop 1 (line ∷ lines rest)) found v silent) ∙ sym after in
+    rw (takes, checked_line n line few short) (one_line_ends e n found (line_of line 0) (lines rest) rest_of_run w new b t0 t1 here failed)
 
 -- a run that goes on
 
 preceded_nothing : (run : Run) → run ≡ preceded [] run
 preceded_nothing run = refl
 
-pub goes_none : (run : Run) (t : Option (List ℕ)) → Goes run run t t
+goes_none : (run : Run) (t : Option (List ℕ)) → Goes run run t t
 goes_none run t = record { replies = []; taken = Appends-nil t; goes_on = preceded_nothing run }
 
 goes_more : (a b c : Run) (t0 t1 t2 : Option (List ℕ)) → Goes a b t0 t1 → Goes b c t1 t2 → Goes a c t0 t2
@@ -134,16 +182,22 @@ goes_more a b c t0 t1 t2 p q = record {
   replies = p.replies ++ q.replies;
   taken = Appends-append t0 t1 t2 p.replies q.replies p.taken q.taken;
   goes_on = p.goes_on ∙ ap (preceded p.replies) q.goes_on
-      ∙ ap (λ replies. let run : Run = record { status = c.status; replies = replies; last = c.last; entropy = c.entropy } in run) (sym (append_assoc p.replies q.replies c.replies));
+      ∙ ap (λ replies. let run : Run = record { status = c.status; replies = replies; last = c.last; entropy = c.entropy; failed = c.failed } in run) (sym (append_assoc p.replies q.replies c.replies));
 }
 
+precedes_whole : (b : Run) (code : ℕ) (front written line left : List ℕ) → IsEnd b code written line left → IsEnd (preceded front b) code (front ++ written) line left
+precedes_whole b code front written line left ends = record { status = ends.status; replies = ap (λ bytes. front ++ bytes) ends.replies; last = ends.last; entropy = ends.entropy }
+
+precedes_front : (b : Run) (front replies : List ℕ) → IsFront replies b.replies → IsFront (front ++ replies) (preceded front b).replies
+precedes_front b front replies ends = (ends.0, ap (λ bytes. front ++ bytes) ends.1 ∙ sym (append_assoc front replies ends.0))
+
 precedes_end : (e : Ending) (b : Run) (front replies entropy : List ℕ) → EndsAs e b replies entropy → EndsAs e (preceded front b) (front ++ replies) entropy
-precedes_end Done b front replies entropy ends = ap (preceded front) ends
-precedes_end Usage b front replies entropy ends = ap (preceded front) ends
-precedes_end (BadLine number at) b front replies entropy ends = ap (preceded front) ends
-precedes_end ReadFault b front replies entropy ends = (ends.0, ap (λ bytes. front ++ bytes) ends.1 ∙ sym (append_assoc front replies ends.0))
-precedes_end WriteFault b front replies entropy ends = (ends.0, ap (λ bytes. front ++ bytes) ends.1 ∙ sym (append_assoc front replies ends.0))
-precedes_end NoMemory b front replies entropy ends = (ends.0, ap (λ bytes. front ++ bytes) ends.1 ∙ sym (append_assoc front replies ends.0))
+precedes_end Done b front replies entropy ends = precedes_whole b _ front replies _ entropy ends
+precedes_end Usage b front replies entropy ends = precedes_whole b _ front replies _ entropy ends
+precedes_end (BadLine number at) b front replies entropy ends = precedes_whole b _ front replies _ entropy ends
+precedes_end ReadFault b front replies entropy ends = precedes_front b front replies ends
+precedes_end WriteFault b front replies entropy ends = precedes_front b front replies ends
+precedes_end NoMemory b front replies entropy ends = precedes_front b front replies ends
 
 taken_after : (e : Ending) (t0 t1 t2 : Option (List ℕ)) (a b : List ℕ) → Appends t0 t1 a → Taken e t1 t2 b → Taken e t0 t2 (a ++ b)
 taken_after WriteFault t0 t1 t2 a b p q = Took-after t0 t1 t2 a b p q
@@ -153,8 +207,8 @@ taken_after ReadFault t0 t1 t2 a b p q = Appends-append t0 t1 t2 a b p q
 taken_after NoMemory t0 t1 t2 a b p q = Appends-append t0 t1 t2 a b p q
 taken_after (BadLine number at) t0 t1 t2 a b p q = Appends-append t0 t1 t2 a b p q
 
-goes_ends : (e : Ending) (a b : Run) (t0 t1 t2 told : Option (List ℕ)) → Goes a b t0 t1 → Ends e b t1 t2 told → Ends e a t0 t2 told
-goes_ends e a b t0 t1 t2 told p q = record {
+goes_ends : (e : Ending) (a b : Run) (t0 t1 t2 told : Option (List ℕ)) (found : List FoundEntry) → Goes a b t0 t1 → Ends e b t1 t2 told found → Ends e a t0 t2 told found
+goes_ends e a b t0 t1 t2 told found p q = record {
   replies = p.replies ++ q.replies;
   entropy = q.entropy;
   taken = taken_after e t0 t1 t2 p.replies q.replies p.taken q.taken;
@@ -162,48 +216,88 @@ goes_ends e a b t0 t1 t2 told p q = record {
       let P : Run → Type 0 = λ run. EndsAs e run (p.replies ++ q.replies) q.entropy in
       subst P (sym p.goes_on) (precedes_end e b p.replies q.replies q.entropy q.ends);
   leaves = q.leaves;
+  failed = ap (λ (run : Run). run.failed) p.goes_on ∙ q.failed;
 }
 
--- a run from its first line on has come to line n, with these bytes unread and in this world, where no taking failed
-pub record Reached (first n : ℕ) (told now : Option (List ℕ)) (start here : Option World) (kept : Type 0) (t0 t1 : Option (List ℕ)) : Type 0 where
-  pub goes : IfSome told (λ bytes. IsSomeAnd now (λ rest. IfSome start (λ w. kept → IsSomeAnd here (λ v. Goes (run_from first (lines bytes) w) (run_from n (lines rest) v) t0 t1))))
+-- lists that agree
 
-pub reached_none : (first : ℕ) (told : Option (List ℕ)) (start : Option World) (kept : Type 0) (t : Option (List ℕ)) → Reached first first told told start start kept t t
-reached_none first None start kept t = record { goes = tt }
-reached_none first (Some bytes) None kept t = record { goes = tt }
-reached_none first (Some bytes) (Some w) kept t = record { goes = λ same. goes_none (run_from first (lines bytes) w) t }
+abbrev pub AgreesBelow : ℕ → (listed found : List FoundEntry) → Type 0
+AgreesBelow n listed found = (m : ℕ) → m < n → failing m found ≡ failing m listed
 
-more_goes : (first n : ℕ) (bytes rest more : List ℕ) (w : World) (b c : Option World) (now : Type 0) (t0 t1 t2 : Option (List ℕ)) → IsSomeAnd b (λ v. Goes (run_from first (lines bytes) w) (run_from n (lines rest) v) t0 t1)
-    → LineRan None n rest (Some more) b c now t1 t2 → now → IsSomeAnd c (λ v. Goes (run_from first (lines bytes) w) (run_from (n + 1) (lines more) v) t0 t2)
-more_goes first n bytes rest more w None c now t0 t1 t2 p q same = absurd p
-more_goes first n bytes rest more w (Some v) c now t0 t1 t2 p q same = here c (q same) where
-  here : (c : Option World) → IsSomeAnd c (λ u. Goes (run_from n (lines rest) v) (run_from (n + 1) (lines more) u) t1 t2) → IsSomeAnd c (λ u. Goes (run_from first (lines bytes) w) (run_from (n + 1) (lines more) u) t0 t2)
-  here None goes = absurd goes
-  here (Some u) goes = goes_more (run_from first (lines bytes) w) (run_from n (lines rest) v) (run_from (n + 1) (lines more) u) t0 t1 t2 p goes
+-- the takings before line n, and those of line n
+pub record Parts (n : ℕ) (a b c : List FoundEntry) : Type 0 where
+  pub whole : since a c ≡ since a b ++ since b c
+  pub before : AllByRecursion (λ entry. entry.line < n) (since a b)
+  pub at_line : AllByRecursion (λ entry. entry.line ≡ n) (since b c)
 
-pub reached_more : (first n : ℕ) (told now left : Option (List ℕ)) (a b c : Option World) (was is all : Type 0) (t0 t1 t2 : Option (List ℕ)) → (all → was × is) → Reached first n told now a b was t0 t1
-    → IfSome now (λ bytes. LineRan None n bytes left b c is t1 t2) → Reached first (n + 1) told left a c all t0 t2
-reached_more first n None now left a b c was is all t0 t1 t2 both p q = record { goes = tt }
-reached_more first n (Some bytes) None left a b c was is all t0 t1 t2 both p q = absurd p.goes
-reached_more first n (Some bytes) (Some rest) None a b c was is all t0 t1 t2 both p q = absurd q
-reached_more first n (Some bytes) (Some rest) (Some more) None b c was is all t0 t1 t2 both p q = record { goes = tt }
-reached_more first n (Some bytes) (Some rest) (Some more) (Some w) b c was is all t0 t1 t2 both p q = record {
-  goes = λ same. more_goes first n bytes rest more w b c is t0 t1 t2 (p.goes (both same).0) q (both same).1;
+pub parts_of : (n : ℕ) (a b c : List FoundEntry) (f0 f1 f2 e0 e1 e2 : ℕ) → Lists (λ line. line < n) a b f0 f1 e0 e1 → Lists (λ line. line ≡ n) b c f1 f2 e1 e2 → Parts n a b c
+parts_of n a b c f0 f1 f2 e0 e1 e2 p q = record { whole = since_both a b c p.grew q.grew; before = p.lines; at_line = q.lines }
+
+parts_below : (n : ℕ) (a b c : List FoundEntry) → Parts n a b c → AgreesBelow n (since a b) (since a c)
+parts_below n a b c parts m below =
+    ap (failing m) parts.whole ∙ failing_first m (since a b) (since b c) (all_weaker (λ entry. entry.line ≡ n) (λ entry. entry.line ≡ m → ⊥) (since b c) (λ entry at_n at_m. omega (arith, at_n, at_m, below)) parts.at_line)
+
+parts_at : (n : ℕ) (a b c : List FoundEntry) → Parts n a b c → AgreesAt n (since b c) (since a c)
+parts_at n a b c parts =
+    ap (failing n) parts.whole ∙ failing_second n (since a b) (since b c) (all_weaker (λ entry. entry.line < n) (λ entry. entry.line ≡ n → ⊥) (since a b) (λ entry below at_n. omega (arith, below, at_n)) parts.before)
+
+parts_silent : (n : ℕ) (a b c : List FoundEntry) → Parts n a b c → IsSilentFrom (n + 1) (since a c)
+parts_silent n a b c parts m past =
+    ap (failing m) parts.whole
+    ∙ failing_first m (since a b) (since b c) (all_weaker (λ entry. entry.line ≡ n) (λ entry. entry.line ≡ m → ⊥) (since b c) (λ entry at_n at_m. omega (arith, at_n, at_m, past)) parts.at_line)
+    ∙ failing_none m (since a b) (all_weaker (λ entry. entry.line < n) (λ entry. entry.line ≡ m → ⊥) (since a b) (λ entry below at_m. omega (arith, below, at_m, past)) parts.before)
+
+-- a run from its first line on, which has listed these takings, has come to line n, with these bytes unread and in this world
+pub record Reached (first n : ℕ) (told now : Option (List ℕ)) (start here : Option World) (listed : List FoundEntry) (t0 t1 : Option (List ℕ)) : Type 0 where
+  pub goes : IfSome told (λ bytes. IsSomeAnd now (λ rest. IfSome start (λ w. (found : List FoundEntry) → AgreesBelow n listed found →
+      IsSomeAnd here (λ v. Goes (run_from first (lines bytes) found w) (run_from n (lines rest) found v) t0 t1))))
+
+pub reached_none : (first : ℕ) (told : Option (List ℕ)) (start : Option World) (listed : List FoundEntry) (t : Option (List ℕ)) → Reached first first told told start start listed t t
+reached_none first None start listed t = record { goes = tt }
+reached_none first (Some bytes) None listed t = record { goes = tt }
+reached_none first (Some bytes) (Some w) listed t = record { goes = λ found agrees. goes_none (run_from first (lines bytes) found w) t }
+
+more_goes : (first n : ℕ) (bytes rest more : List ℕ) (found : List FoundEntry) (w : World) (b c : Option World) (t0 t1 t2 : Option (List ℕ))
+    → IsSomeAnd b (λ v. Goes (run_from first (lines bytes) found w) (run_from n (lines rest) found v) t0 t1)
+    → IfSome b (λ v. IsSomeAnd c (λ u. Goes (run_from n (lines rest) found v) (run_from (n + 1) (lines more) found u) t1 t2))
+    → IsSomeAnd c (λ u. Goes (run_from first (lines bytes) found w) (run_from (n + 1) (lines more) found u) t0 t2)
+more_goes first n bytes rest more found w None c t0 t1 t2 p q = absurd p
+more_goes first n bytes rest more found w (Some v) None t0 t1 t2 p q = absurd q
+more_goes first n bytes rest more found w (Some v) (Some u) t0 t1 t2 p q = goes_more (run_from first (lines bytes) found w) (run_from n (lines rest) found v) (run_from (n + 1) (lines more) found u) t0 t1 t2 p q
+
+line_goes : (n : ℕ) (rest more : List ℕ) (found listed after : List FoundEntry) (b c : Option World) (t1 t2 : Option (List ℕ)) → LineRan None n rest (Some more) b c listed after t1 t2 → AgreesAt n listed found
+    → IfSome b (λ v. IsSomeAnd c (λ u. Goes (run_from n (lines rest) found v) (run_from (n + 1) (lines more) found u) t1 t2))
+line_goes n rest more found listed after None c t1 t2 ran agrees = tt
+line_goes n rest more found listed after (Some v) c t1 t2 ran agrees = ran found agrees
+
+pub reached_more : (first n : ℕ) (told now left : Option (List ℕ)) (start here after : Option World) (a b c : List FoundEntry) (t0 t1 t2 : Option (List ℕ)) → Parts n a b c → Reached first n told now start here (since a b) t0 t1
+    → IfSome now (λ bytes. LineRan None n bytes left here after (since b c) c t1 t2) → Reached first (n + 1) told left start after (since a c) t0 t2
+reached_more first n None now left start here after a b c t0 t1 t2 parts p q = record { goes = tt }
+reached_more first n (Some bytes) None left start here after a b c t0 t1 t2 parts p q = absurd p.goes
+reached_more first n (Some bytes) (Some rest) None start here after a b c t0 t1 t2 parts p q = absurd q
+reached_more first n (Some bytes) (Some rest) (Some more) None here after a b c t0 t1 t2 parts p q = record { goes = tt }
+reached_more first n (Some bytes) (Some rest) (Some more) (Some w) here after a b c t0 t1 t2 parts p q = record {
+  goes = λ found agrees.
+      more_goes first n bytes rest more found w here after t0 t1 t2
+      (p.goes found (λ m below. agrees m (omega (arith, below)) ∙ parts_below n a b c parts m below))
+      (line_goes n rest more found (since b c) c here after t1 t2 q (agrees n (omega arith) ∙ parts_at n a b c parts));
 }
 
-end_goes : (e : Ending) (first n : ℕ) (bytes rest : List ℕ) (w : World) (left : Option (List ℕ)) (b c : Option World) (is : Type 0) (t0 t1 t2 : Option (List ℕ))
-    → IsSomeAnd b (λ v. Goes (run_from first (lines bytes) w) (run_from n (lines rest) v) t0 t1) → LineRan (Some e) n rest left b c is t1 t2 → is
-    → Ends e (run_from first (lines bytes) w) t0 t2 (entropy_of c)
-end_goes e first n bytes rest w left None c is t0 t1 t2 p q same = absurd p
-end_goes e first n bytes rest w left (Some v) c is t0 t1 t2 p q same = goes_ends e (run_from first (lines bytes) w) (run_from n (lines rest) v) t0 t1 t2 (entropy_of c) p (q same)
+end_goes : (e : Ending) (first n : ℕ) (bytes rest : List ℕ) (found listed last : List FoundEntry) (w : World) (left : Option (List ℕ)) (b c : Option World) (t0 t1 t2 : Option (List ℕ))
+    → IsSomeAnd b (λ v. Goes (run_from first (lines bytes) found w) (run_from n (lines rest) found v) t0 t1) → LineRan (Some e) n rest left b c listed last t1 t2 → AgreesAt n listed found → IsSilentFrom (n + 1) found
+    → Ends e (run_from first (lines bytes) found w) t0 t2 (entropy_of c) last
+end_goes e first n bytes rest found listed last w left None c t0 t1 t2 p q agrees silent = absurd p
+end_goes e first n bytes rest found listed last w left (Some v) c t0 t1 t2 p q agrees silent =
+    goes_ends e (run_from first (lines bytes) found w) (run_from n (lines rest) found v) t0 t1 t2 (entropy_of c) last p (q found agrees silent)
 
-pub reached_end : (e : Ending) (first n : ℕ) (told now left : Option (List ℕ)) (a b c : Option World) (was is all : Type 0) (t0 t1 t2 : Option (List ℕ)) → (all → was × is) → Reached first n told now a b was t0 t1
-    → IfSome now (λ bytes. LineRan (Some e) n bytes left b c is t1 t2) → IfSome told (λ bytes. IfSome a (λ w. all → Ends e (run_from first (lines bytes) w) t0 t2 (entropy_of c)))
-reached_end e first n None now left a b c was is all t0 t1 t2 both p q = tt
-reached_end e first n (Some bytes) None left a b c was is all t0 t1 t2 both p q = absurd p.goes
-reached_end e first n (Some bytes) (Some rest) left None b c was is all t0 t1 t2 both p q = tt
-reached_end e first n (Some bytes) (Some rest) left (Some w) b c was is all t0 t1 t2 both p q =
-    λ same. end_goes e first n bytes rest w left b c is t0 t1 t2 (p.goes (both same).0) q (both same).1
+pub reached_end : (e : Ending) (first n : ℕ) (told now left : Option (List ℕ)) (start here after : Option World) (a b c : List FoundEntry) (t0 t1 t2 : Option (List ℕ)) → Parts n a b c
+    → Reached first n told now start here (since a b) t0 t1 → IfSome now (λ bytes. LineRan (Some e) n bytes left here after (since b c) c t1 t2)
+    → IfSome told (λ bytes. IfSome start (λ w. Ends e (run_from first (lines bytes) (since a c) w) t0 t2 (entropy_of after) c))
+reached_end e first n None now left start here after a b c t0 t1 t2 parts p q = tt
+reached_end e first n (Some bytes) None left start here after a b c t0 t1 t2 parts p q = absurd p.goes
+reached_end e first n (Some bytes) (Some rest) left None here after a b c t0 t1 t2 parts p q = tt
+reached_end e first n (Some bytes) (Some rest) left (Some w) here after a b c t0 t1 t2 parts p q =
+    end_goes e first n bytes rest (since a c) (since b c) c w left here after t0 t1 t2 (p.goes (since a c) (parts_below n a b c parts)) q (parts_at n a b c parts) (parts_silent n a b c parts)
 
 -- a run that ends without a reply more
 
@@ -223,22 +317,34 @@ leaves_all ReadFault entropy = tt
 leaves_all WriteFault entropy = tt
 leaves_all NoMemory entropy = tt
 
-limit_goes : (e : Ending) (first : ℕ) (bytes rest : List ℕ) (w : World) (b : Option World) (t0 t1 : Option (List ℕ))
-    → IsSomeAnd b (λ v. Goes (run_from first (lines bytes) w) (run_from 1048577 (lines rest) v) t0 t1) → ((v : World) → EndsAs e (run_from 1048577 (lines rest) v) [] v.entropy)
-    → Ends e (run_from first (lines bytes) w) t0 t1 (entropy_of b)
-limit_goes e first bytes rest w None t0 t1 p q = absurd p
-limit_goes e first bytes rest w (Some v) t0 t1 p q =
-    let ends : Ends e (run_from 1048577 (lines rest) v) t1 t1 (Some v.entropy) = record { replies = []; entropy = v.entropy; taken = nothing_taken e t1; ends = q v; leaves = leaves_all e v.entropy } in
-    goes_ends e (run_from first (lines bytes) w) (run_from 1048577 (lines rest) v) t0 t1 t1 (Some v.entropy) p ends
+limit_goes : (e : Ending) (first : ℕ) (bytes rest : List ℕ) (found last : List FoundEntry) (w : World) (b : Option World) (t0 t1 : Option (List ℕ))
+    → IsSomeAnd b (λ v. Goes (run_from first (lines bytes) found w) (run_from 1048577 (lines rest) found v) t0 t1) → IfSome b (λ v. v.failed ≡ last) → IsSilentFrom 1048577 found
+    → ((v : World) → EndsAs e (run_from 1048577 (lines rest) found v) [] v.entropy) → Ends e (run_from first (lines bytes) found w) t0 t1 (entropy_of b) last
+limit_goes e first bytes rest found last w None t0 t1 p failed silent q = absurd p
+limit_goes e first bytes rest found last w (Some v) t0 t1 p failed silent q =
+    let ends : Ends e (run_from 1048577 (lines rest) found v) t1 t1 (Some v.entropy) last =
+    record { replies = []; entropy = v.entropy; taken = nothing_taken e t1; ends = q v; leaves = leaves_all e v.entropy; failed = quiet_from 1048577 (lines rest) found v silent ∙ failed } in
+    goes_ends e (run_from first (lines bytes) found w) (run_from 1048577 (lines rest) found v) t0 t1 t1 (Some v.entropy) last p ends
 
-pub reached_limit : (e : Ending) (first : ℕ) (told now : Option (List ℕ)) (a b : Option World) (kept : Type 0) (t0 t1 : Option (List ℕ)) → Reached first 1048577 told now a b kept t0 t1
-    → IfSome now (λ bytes. (w : World) → EndsAs e (run_from 1048577 (lines bytes) w) [] w.entropy) → IfSome told (λ bytes. IfSome a (λ w. kept → Ends e (run_from first (lines bytes) w) t0 t1 (entropy_of b)))
-reached_limit e first None now a b kept t0 t1 p q = tt
-reached_limit e first (Some bytes) None a b kept t0 t1 p q = absurd p.goes
-reached_limit e first (Some bytes) (Some rest) None b kept t0 t1 p q = tt
-reached_limit e first (Some bytes) (Some rest) (Some w) b kept t0 t1 p q = λ same. limit_goes e first bytes rest w b t0 t1 (p.goes same) q
+all_silent : (n : ℕ) (found : List FoundEntry) → AllByRecursion (λ entry. entry.line < n) found → IsSilentFrom n found
+all_silent n found before m past = failing_none m found (all_weaker (λ entry. entry.line < n) (λ entry. entry.line ≡ m → ⊥) found (λ entry below at_m. omega (arith, below, at_m, past)) before)
 
--- the entropy of a told world is that of the source of entropy
+pub reached_limit : (e : Ending) (first : ℕ) (told now : Option (List ℕ)) (start here : Option World) (a b : List FoundEntry) (t0 t1 : Option (List ℕ)) → AllByRecursion (λ entry. entry.line < 1048577) (since a b)
+    → IfSome here (λ v. v.failed ≡ b) → Reached first 1048577 told now start here (since a b) t0 t1
+    → IfSome now (λ bytes. (found : List FoundEntry) → (w : World) → EndsAs e (run_from 1048577 (lines bytes) found w) [] w.entropy)
+    → IfSome told (λ bytes. IfSome start (λ w. Ends e (run_from first (lines bytes) (since a b) w) t0 t1 (entropy_of here) b))
+reached_limit e first None now start here a b t0 t1 before failed p q = tt
+reached_limit e first (Some bytes) None start here a b t0 t1 before failed p q = absurd p.goes
+reached_limit e first (Some bytes) (Some rest) None here a b t0 t1 before failed p q = tt
+reached_limit e first (Some bytes) (Some rest) (Some w) here a b t0 t1 before failed p q =
+    limit_goes e first bytes rest (since a b) b w here t0 t1 (p.goes (since a b) (λ m below. refl)) failed (all_silent 1048577 (since a b) before) (q (since a b))
+
+-- a told world is that of its parts
+
+pub failed_told : (p : Plain) (files : Option (List (List ℕ × List ℕ))) (entropy : Option (List ℕ)) (found : List FoundEntry) → IfSome (told_world p files entropy found) (λ w. w.failed ≡ found)
+failed_told p None entropy found = tt
+failed_told p (Some files) None found = tt
+failed_told p (Some files) (Some entropy) found = refl
 
 leaves_told : (e : Ending) (told now : Option (List ℕ)) (entropy : List ℕ) → ((x : List ℕ) → told ≡ Some x → now ≡ Some x) → Leaves e told entropy → Leaves e now entropy
 leaves_told Done told now entropy same leaves = same entropy leaves
@@ -248,303 +354,69 @@ leaves_told ReadFault told now entropy same leaves = tt
 leaves_told WriteFault told now entropy same leaves = tt
 leaves_told NoMemory told now entropy same leaves = tt
 
-entropy_told : (p : Plain) (files : Option (List (List ℕ × List ℕ))) (now : Option (List ℕ)) (x : List ℕ) → entropy_of (told_world p files now) ≡ Some x → now ≡ Some x
-entropy_told p None now x e = absurd (cc)
-entropy_told p (Some files) None x e = absurd (cc)
-entropy_told p (Some files) (Some entropy) x e = e
+entropy_told : (p : Plain) (files : Option (List (List ℕ × List ℕ))) (now : Option (List ℕ)) (found : List FoundEntry) (x : List ℕ) → entropy_of (told_world p files now found) ≡ Some x → now ≡ Some x
+entropy_told p None now found x e = absurd (cc)
+entropy_told p (Some files) None found x e = absurd (cc)
+entropy_told p (Some files) (Some entropy) found x e = e
 
-pub ends_told : (e : Ending) (script : Option (List ℕ)) (world : Option World) (kept : Type 0) (run : List ℕ → World → Run) (p : Plain) (files : Option (List (List ℕ × List ℕ))) (now t0 t1 : Option (List ℕ))
-    → IfSome script (λ bytes. IfSome world (λ w. kept → Ends e (run bytes w) t0 t1 (entropy_of (told_world p files now)))) → IfSome script (λ bytes. IfSome world (λ w. kept → Ends e (run bytes w) t0 t1 now))
-ends_told e None world kept run p files now t0 t1 ends = tt
-ends_told e (Some bytes) None kept run p files now t0 t1 ends = tt
-ends_told e (Some bytes) (Some w) kept run p files now t0 t1 ends = λ same.
-    let here : Ends e (run bytes w) t0 t1 (entropy_of (told_world p files now)) = ends same in
-    record { replies = here.replies; entropy = here.entropy; taken = here.taken; ends = here.ends; leaves = leaves_told e (entropy_of (told_world p files now)) now here.entropy (entropy_told p files now) here.leaves }
+pub ends_told : (e : Ending) (script : Option (List ℕ)) (world : Option World) (run : List ℕ → World → Run) (p : Plain) (files : Option (List (List ℕ × List ℕ))) (now : Option (List ℕ)) (found last : List FoundEntry) (t0 t1 : Option (List ℕ))
+    → IfSome script (λ bytes. IfSome world (λ w. Ends e (run bytes w) t0 t1 (entropy_of (told_world p files now found)) last)) → IfSome script (λ bytes. IfSome world (λ w. Ends e (run bytes w) t0 t1 now last))
+ends_told e None world run p files now found last t0 t1 ends = tt
+ends_told e (Some bytes) None run p files now found last t0 t1 ends = tt
+ends_told e (Some bytes) (Some w) run p files now found last t0 t1 ends = record {
+  replies = ends.replies;
+  entropy = ends.entropy;
+  taken = ends.taken;
+  ends = ends.ends;
+  leaves = leaves_told e (entropy_of (told_world p files now found)) now ends.entropy (entropy_told p files now found) ends.leaves;
+  failed = ends.failed;
+}
 
 -- where no line is taken the run ends
 
-no_line_ends : (e : Ending) (n : ℕ) (bytes : List ℕ) (left : Option (List ℕ)) (w : World) → n ≤ 1048576 → TakesNone e n bytes left → EndsAs e (run_from n (lines bytes) w) [] w.entropy
-no_line_ends Done n bytes left w few none = rw none.0 refl
-no_line_ends (BadLine m at) n bytes left w few none =
+long_end : (n m at : ℕ) (w : World) → m ≡ n → at ≡ 65536 → IsEnd (over 3 (bad_line n 65536) w) 3 [] (bad_line m at) w.entropy
+long_end n m at w same long = record { status = refl; replies = refl; last = ap (λ k. bad_line k 65536) (sym same) ∙ ap (λ k. bad_line m k) (sym long); entropy = refl }
+
+no_line_ends : (e : Ending) (n : ℕ) (bytes : List ℕ) (left : Option (List ℕ)) (found : List FoundEntry) (w : World) → n ≤ 1048576 → TakesNone e n bytes left → EndsAs e (run_from n (lines bytes) found w) [] w.entropy
+no_line_ends Done n bytes left found w few none = rw none.0 (record { status = refl; replies = refl; last = refl; entropy = refl })
+no_line_ends (BadLine m at) n bytes left found w few none =
     let within : nat_lt 1048576 n ≡ false = grind (arith, nat_tests) in
     let long : nat_lt 65536 (length none.2) ≡ true = let past : 65536 < length none.2 = none.5 in grind (arith, nat_tests) in
     let bad : checked n none.2 ≡ Err 65536 = rw (within, long) refl in
-    let run : List (List ℕ) → Run = λ ls. run_from n ls w in
-    ap run none.4 ∙ ap (λ outcome. goes_on n w outcome none.3 (λ v taken. run_within (length none.3) (n + taken) (drop taken (none.2 ∷ none.3)) v)) bad
-    ∙ ap (λ m. let r : Run = record { status = 3; replies = []; last = bad_line m 65536; entropy = w.entropy } in r) (sym none.0)
-    ∙ ap (λ a. let r : Run = record { status = 3; replies = []; last = bad_line m a; entropy = w.entropy } in r) (sym none.1)
-no_line_ends ReadFault n bytes left w few none = ((run_from n (lines bytes) w).replies, refl)
-no_line_ends NoMemory n bytes left w few none = ((run_from n (lines bytes) w).replies, refl)
-no_line_ends Usage n bytes left w few none = absurd none
-no_line_ends WriteFault n bytes left w few none = absurd none
+    let run : List (List ℕ) → Run = λ ls. run_from n ls found w in
+    let whole : run_from n (lines bytes) found w ≡ over 3 (bad_line n 65536) w =
+    ap run none.4 ∙ ap (λ outcome. goes_on n found w outcome none.3 (λ v taken. run_within (length none.3) (n + taken) (drop taken (none.2 ∷ none.3)) found v)) bad in
+    let P : Run → Type 0 = λ r. IsEnd r 3 [] (bad_line m at) w.entropy in
+    subst P (sym whole) (long_end n m at w none.0 none.1)
+no_line_ends ReadFault n bytes left found w few none = ((run_from n (lines bytes) found w).replies, refl)
+no_line_ends NoMemory n bytes left found w few none = ((run_from n (lines bytes) found w).replies, refl)
+no_line_ends Usage n bytes left found w few none = absurd none
+no_line_ends WriteFault n bytes left found w few none = absurd none
 
-pub line_not_taken : (told left : Option (List ℕ)) (e : Ending) (n : ℕ) (old : Option World) (kept : Type 0) (t : Option (List ℕ)) → n ≤ 1048576 → IfSome told (λ bytes. TakesNone e n bytes left)
-    → IfSome told (λ bytes. LineRan (Some e) n bytes left old old kept t t)
-line_not_taken None left e n old kept t few none = tt
-line_not_taken (Some bytes) left e n None kept t few none = tt
-line_not_taken (Some bytes) left e n (Some w) kept t few none = λ same.
-    record { replies = []; entropy = w.entropy; taken = nothing_taken e t; ends = no_line_ends e n bytes left w few none; leaves = leaves_all e w.entropy }
+pub line_not_taken : (told left : Option (List ℕ)) (e : Ending) (n : ℕ) (old : Option World) (a : List FoundEntry) (t : Option (List ℕ)) → n ≤ 1048576 → IfSome told (λ bytes. TakesNone e n bytes left) → IfSome old (λ w. w.failed ≡ a)
+    → IfSome told (λ bytes. LineRan (Some e) n bytes left old old (since a a) a t t)
+line_not_taken None left e n old a t few none failed = tt
+line_not_taken (Some bytes) left e n None a t few none failed = tt
+line_not_taken (Some bytes) left e n (Some w) a t few none failed = λ found agrees silent. record {
+  replies = [];
+  entropy = w.entropy;
+  taken = nothing_taken e t;
+  ends = no_line_ends e n bytes left found w few none;
+  leaves = leaves_all e w.entropy;
+  failed = quiet_from n (lines bytes) found w (silent_here n found (agrees ∙ ap (failing n) (since_none a)) silent) ∙ failed;
+}
 
 -- past the last line that a script may have
 
-one_line_past : (line : List ℕ) (rest : List (List ℕ)) (bytes : List ℕ) (w : World) → lines bytes ≡ line ∷ rest → EndsAs (BadLine 1048577 0) (run_from 1048577 (lines bytes) w) [] w.entropy
-one_line_past line rest bytes w e = rw e refl
+one_line_past : (line : List ℕ) (rest : List (List ℕ)) (bytes : List ℕ) (found : List FoundEntry) (w : World) → lines bytes ≡ line ∷ rest → EndsAs (BadLine 1048577 0) (run_from 1048577 (lines bytes) found w) [] w.entropy
+one_line_past line rest bytes found w e = rw e (record { status = refl; replies = refl; last = refl; entropy = refl })
 
-pub long_line_past : (told : Option (List ℕ)) → IfSome told (λ bytes. 65536 < length (first_line bytes)) → IfSome told (λ bytes. (w : World) → EndsAs (BadLine 1048577 0) (run_from 1048577 (lines bytes) w) [] w.entropy)
+pub long_line_past : (told : Option (List ℕ)) → IfSome told (λ bytes. 65536 < length (first_line bytes))
+    → IfSome told (λ bytes. (found : List FoundEntry) → (w : World) → EndsAs (BadLine 1048577 0) (run_from 1048577 (lines bytes) found w) [] w.entropy)
 long_line_past None long = tt
-long_line_past (Some bytes) long = λ w. let found = too_long bytes long in one_line_past found.0 found.1 bytes w found.2
+long_line_past (Some bytes) long = λ found w. let there = too_long bytes long in one_line_past there.0 there.1 bytes found w there.2
 
-pub nothing_replied : (run : Run) → IsFront [] run.replies
-nothing_replied run = (run.replies, refl)
-
--- the end of a script that was read by a reader that began with nothing
-
-pub all_read : (pending : List ℕ) (left : Option (List ℕ)) → unread pending left ≡ Some [] → left ≡ Some []
-all_read pending None e = cc
-all_read [] (Some bytes) e = e
-all_read (byte ∷ pending) (Some bytes) e = cc
-
--- the last line, behind the replies
-
-wrote_last : (run : Run) (status : ℕ) (rose : Type 0) (replies part line : List ℕ) (before : List ℕ) (t1 t2 : Option (List ℕ)) → Appends (Some before) t1 replies → Took t1 t2 part
-    → IsFront part line → (part ≡ line) ⊎ rose → line ≡ last_line status run → IsFront replies run.replies → (IsAnswered status → (run.status ≡ status) × (replies ≡ run.replies))
-    → IfSome t2 (λ after. Wrote run status rose before after)
-wrote_last run status rose replies part line before None t2 taken closed front whole same begun answered = absurd taken
-wrote_last run status rose replies part line before (Some mid) None taken closed front whole same begun answered = tt
-wrote_last run status rose replies part line before (Some mid) (Some after) taken closed front whole same begun answered =
-    let P : List ℕ → Type 0 = λ l. IsFront part l in
-    let Q : List ℕ → Type 0 = λ l. (part ≡ l) ⊎ rose in
-    record {
-      replies = replies;
-      last = part;
-      written = closed ∙ ap (λ bytes. bytes ++ part) taken;
-      begun = begun;
-      ended = subst P same front;
-      whole = subst Q same whole;
-      answered = answered;
-    }
-
-pub all_read_where_told : (e : Ending) (left now : Option (List ℕ)) (pending rest : List ℕ) → pending ≡ [] → (e ≡ Done → IfSome (unread pending left) (λ bytes. unread rest now ≡ Some [])) → e ≡ Done
-    → IfSome left (λ bytes. now ≡ Some [])
-all_read_where_told e None now pending rest none ends done = tt
-all_read_where_told e (Some bytes) now pending rest none ends done = all_read rest now (ends done)
-
--- the whole run
-
-read_fault_unanswered : IsAnswered 4 → ⊥
-read_fault_unanswered h = grind arith
-
-write_fault_unanswered : IsAnswered 5 → ⊥
-write_fault_unanswered h = grind arith
-
-no_memory_unanswered : IsAnswered 12 → ⊥
-no_memory_unanswered h = grind arith
-
--- a run that is answered has all replies
-record IsWhole (run : Run) (status : ℕ) (replies last : List ℕ) : Type 0 where
-  same : last ≡ run.last
-  begun : IsFront replies run.replies
-  answered : (run.status ≡ status) × (replies ≡ run.replies)
-
-whole_run : (run : Run) (status : ℕ) (replies last entropy : List ℕ) → run ≡ record { status = status; replies = replies; last = last; entropy = entropy } → IsWhole run status replies last
-whole_run run status replies last entropy e = record {
-  same = sym (ap (λ (r : Run). r.last) e);
-  begun = ([], ap (λ (r : Run). r.replies) e ∙ append_nil replies);
-  answered = (ap (λ (r : Run). r.status) e, sym (ap (λ (r : Run). r.replies) e));
-}
-
-wrote_whole : (run : Run) (status : ℕ) (rose : Type 0) (replies last : List ℕ) (before : List ℕ) (t1 t2 : Option (List ℕ)) → Appends (Some before) t1 replies → Closes last rose t1 t2
-    → run.last ≡ last_line status run → IsWhole run status replies last → IfSome t2 (λ after. Wrote run status rose before after)
-wrote_whole run status rose replies last before t1 t2 taken closed line whole =
-    wrote_last run status rose replies closed.part last before t1 t2 taken closed.taken closed.front closed.whole (whole.same ∙ line) whole.begun (λ answered. whole.answered)
-
-wrote_front : (run : Run) (status : ℕ) (rose : Type 0) (replies last : List ℕ) (before : List ℕ) (t1 t2 : Option (List ℕ)) → Appends (Some before) t1 replies → Closes last rose t1 t2
-    → last ≡ last_line status run → IsFront replies run.replies → (IsAnswered status → ⊥) → IfSome t2 (λ after. Wrote run status rose before after)
-wrote_front run status rose replies last before t1 t2 taken closed line begun unanswered =
-    wrote_last run status rose replies closed.part last before t1 t2 taken closed.taken closed.front closed.whole line begun (λ answered. absurd (unanswered answered))
-
--- after a write fault nothing more is written
-wrote_no_more : (run : Run) (rose : Type 0) (replies before : List ℕ) (t1 : Option (List ℕ)) → Took (Some before) t1 replies → IsFront replies run.replies → IfSome t1 (λ after. Wrote run 5 rose before after)
-wrote_no_more run rose replies before None taken begun = tt
-wrote_no_more run rose replies before (Some after) taken begun = record {
-  replies = replies;
-  last = [];
-  written = taken ∙ append_nil (before ++ replies);
-  begun = begun;
-  ended = ([], refl);
-  whole = inl refl;
-  answered = λ answered. absurd (write_fault_unanswered answered);
-}
-
--- a front of a bad line's replies
-bad_line_front : (run : Run) (number at : ℕ) (replies entropy : List ℕ) → EndsAs (BadLine number at) run replies entropy → IsFront replies run.replies
-bad_line_front run number at replies entropy e = (whole_run run 3 replies (bad_line number at) entropy e).begun
-
-wrote_as : (e closed : Ending) (run : Run) (rose : Type 0) (before : List ℕ) (t1 t2 left : Option (List ℕ)) → Ends e run (Some before) t1 left → closed ≡ e → Closes (closing_line e) rose t1 t2 → (closing_line e ≡ [] → t2 ≡ t1)
-    → IfSome t2 (λ after. Wrote run (status_of e) rose before after)
-wrote_as Done closed run rose before t1 t2 left ends same line kept = wrote_whole run 0 rose ends.replies [] before t1 t2 ends.taken line refl (whole_run run 0 ends.replies [] ends.entropy ends.ends)
-wrote_as Usage closed run rose before t1 t2 left ends same line kept = wrote_whole run 2 rose ends.replies usage_line before t1 t2 ends.taken line refl (whole_run run 2 ends.replies usage_line ends.entropy ends.ends)
-wrote_as (BadLine number at) closed run rose before t1 t2 left ends same line kept =
-    wrote_whole run 3 rose ends.replies (bad_line number at) before t1 t2 ends.taken line refl (whole_run run 3 ends.replies (bad_line number at) ends.entropy ends.ends)
-wrote_as ReadFault closed run rose before t1 t2 left ends same line kept = wrote_front run 4 rose ends.replies read_fault_line before t1 t2 ends.taken line refl ends.ends read_fault_unanswered
-wrote_as NoMemory closed run rose before t1 t2 left ends same line kept = wrote_front run 12 rose ends.replies no_memory_line before t1 t2 ends.taken line refl ends.ends no_memory_unanswered
-wrote_as WriteFault closed run rose before t1 t2 left ends same line kept =
-    let P : Option (List ℕ) → Type 0 = λ t. IfSome t (λ after. Wrote run 5 rose before after) in
-    subst P (sym (kept refl)) (wrote_no_more run rose ends.replies before t1 ends.taken ends.ends)
-
-wrote_closed : (e closed : Ending) (run : Run) (rose : Type 0) (before : List ℕ) (t1 t2 left : Option (List ℕ)) → Ends e run (Some before) t1 left → closed ≡ e → Closes (closing_line closed) rose t1 t2 → (closing_line closed ≡ [] → t2 ≡ t1)
-    → IfSome t2 (λ after. Wrote run (status_of closed) rose before after)
-wrote_closed e closed run rose before t1 t2 left ends same line kept =
-    let P : Ending → Type 0 = λ x. Closes (closing_line x) rose t1 t2 → (closing_line x ≡ [] → t2 ≡ t1) → IfSome t2 (λ after. Wrote run (status_of x) rose before after) in
-    subst P (sym same) (wrote_as e e run rose before t1 t2 left ends refl) line kept
-
-wrote_without_memory : (number at : ℕ) (closed : Ending) (run : Run) (rose : Type 0) (before : List ℕ) (t1 t2 left : Option (List ℕ)) → Ends (BadLine number at) run (Some before) t1 left → closed ≡ NoMemory → Closes (closing_line closed) rose t1 t2
-    → IfSome t2 (λ after. Wrote run (status_of closed) rose before after)
-wrote_without_memory number at closed run rose before t1 t2 left ends same line =
-    let P : Ending → Type 0 = λ x. Closes (closing_line x) rose t1 t2 → IfSome t2 (λ after. Wrote run (status_of x) rose before after) in
-    subst P (sym same) (λ line. wrote_front run 12 rose ends.replies no_memory_line before t1 t2 ends.taken line refl (bad_line_front run number at ends.replies ends.entropy ends.ends) no_memory_unanswered) line
-
-wrote_any : (e closed : Ending) (run : Run) (rose : Type 0) (before : List ℕ) (t1 t2 left : Option (List ℕ)) → Ends e run (Some before) t1 left → ClosesAs e closed → Closes (closing_line closed) rose t1 t2 → (closing_line closed ≡ [] → t2 ≡ t1)
-    → IfSome t2 (λ after. Wrote run (status_of closed) rose before after)
-wrote_any (BadLine number at) closed run rose before t1 t2 left ends closes_as line kept =
-    ⊎_elim (λ same. wrote_closed (BadLine number at) closed run rose before t1 t2 left ends same line kept)
-    (λ same. wrote_without_memory number at closed run rose before t1 t2 left ends same line) closes_as
-wrote_any Done closed run rose before t1 t2 left ends closes_as line kept = wrote_closed Done closed run rose before t1 t2 left ends closes_as line kept
-wrote_any Usage closed run rose before t1 t2 left ends closes_as line kept = wrote_closed Usage closed run rose before t1 t2 left ends closes_as line kept
-wrote_any ReadFault closed run rose before t1 t2 left ends closes_as line kept = wrote_closed ReadFault closed run rose before t1 t2 left ends closes_as line kept
-wrote_any WriteFault closed run rose before t1 t2 left ends closes_as line kept = wrote_closed WriteFault closed run rose before t1 t2 left ends closes_as line kept
-wrote_any NoMemory closed run rose before t1 t2 left ends closes_as line kept = wrote_closed NoMemory closed run rose before t1 t2 left ends closes_as line kept
-
-pub wrote : (script : Option (List ℕ)) (world : Option World) (kept : Type 0) (run : List ℕ → World → Run) (e closed : Ending) (rose : Type 0) (t0 t1 t2 left : Option (List ℕ))
-    → IfSome script (λ bytes. IfSome world (λ w. kept → Ends e (run bytes w) t0 t1 left)) → ClosesAs e closed → Closes (closing_line closed) rose t1 t2 → (closing_line closed ≡ [] → t2 ≡ t1)
-    → IfSome script (λ bytes. IfSome world (λ w. kept → IfSome t0 (λ before. IfSome t2 (λ after. Wrote (run bytes w) (status_of closed) rose before after))))
-wrote None world kept run e closed rose t0 t1 t2 left ends closes_as line silent = tt
-wrote (Some bytes) None kept run e closed rose t0 t1 t2 left ends closes_as line silent = tt
-wrote (Some bytes) (Some w) kept run e closed rose None t1 t2 left ends closes_as line silent = λ same. tt
-wrote (Some bytes) (Some w) kept run e closed rose (Some before) t1 t2 left ends closes_as line silent = λ same. wrote_any e closed (run bytes w) rose before t1 t2 left (ends same) closes_as line silent
-
--- the entropy that an answered run leaves
-
-left_by : (e : Ending) (run : Run) (replies entropy : List ℕ) (told : Option (List ℕ)) → EndsAs e run replies entropy → Leaves e told entropy → IsAnswered (status_of e) → told ≡ Some run.entropy
-left_by Done run replies entropy told ends leaves answered = leaves ∙ ap (λ (r : Run). Some r.entropy) (sym ends)
-left_by Usage run replies entropy told ends leaves answered = leaves ∙ ap (λ (r : Run). Some r.entropy) (sym ends)
-left_by (BadLine number at) run replies entropy told ends leaves answered = leaves ∙ ap (λ (r : Run). Some r.entropy) (sym ends)
-left_by ReadFault run replies entropy told ends leaves answered = absurd (read_fault_unanswered answered)
-left_by WriteFault run replies entropy told ends leaves answered = absurd (write_fault_unanswered answered)
-left_by NoMemory run replies entropy told ends leaves answered = absurd (no_memory_unanswered answered)
-
-answered_as : (e closed : Ending) → ClosesAs e closed → IsAnswered (status_of closed) → IsAnswered (status_of e)
-answered_as (BadLine number at) closed closes_as answered = inr (inr refl)
-answered_as Done closed closes_as answered = inl refl
-answered_as Usage closed closes_as answered = inr (inl refl)
-answered_as ReadFault closed closes_as answered = subst (λ x. IsAnswered (status_of x)) closes_as answered
-answered_as WriteFault closed closes_as answered = subst (λ x. IsAnswered (status_of x)) closes_as answered
-answered_as NoMemory closed closes_as answered = subst (λ x. IsAnswered (status_of x)) closes_as answered
-
-pub leaves_entropy : (script : Option (List ℕ)) (world : Option World) (kept : Type 0) (run : List ℕ → World → Run) (e closed : Ending) (t0 t1 told : Option (List ℕ))
-    → IfSome script (λ bytes. IfSome world (λ w. kept → Ends e (run bytes w) t0 t1 told)) → ClosesAs e closed
-    → IfSome script (λ bytes. IfSome world (λ w. kept → IsAnswered (status_of closed) → told ≡ Some (run bytes w).entropy))
-leaves_entropy None world kept run e closed t0 t1 told ends closes_as = tt
-leaves_entropy (Some bytes) None kept run e closed t0 t1 told ends closes_as = tt
-leaves_entropy (Some bytes) (Some w) kept run e closed t0 t1 told ends closes_as = λ same answered.
-    let here : Ends e (run bytes w) t0 t1 told = ends same in
-    left_by e (run bytes w) here.replies here.entropy told here.ends here.leaves (answered_as e closed closes_as answered)
-
--- a count that rose since a later moment rose since an earlier one
-Rose-since : (first before now : ℕ) → first ≤ before → Rose before now → Rose first now
-Rose-since first before now later rose = omega arith
-
-sink_faults_later : (e : Ending) (before now : ℕ) → SinkFaults (Some e) before now → before ≤ now
-sink_faults_later WriteFault before now h = h.0
-sink_faults_later Done before now h = omega arith
-sink_faults_later Usage before now h = omega arith
-sink_faults_later ReadFault before now h = omega arith
-sink_faults_later NoMemory before now h = omega arith
-sink_faults_later (BadLine number at) before now h = omega arith
-
-pub closes_since : (e : Ending) (line : List ℕ) (first before now : ℕ) (t1 t2 : Option (List ℕ)) → SinkFaults (Some e) first before → Closes line (Rose before now) t1 t2 → Closes line (Rose first now) t1 t2
-closes_since e line first before now t1 t2 sink closed = record {
-  part = closed.part;
-  taken = closed.taken;
-  front = closed.front;
-  whole = ⊎_elim (λ whole. inl whole) (λ rose. inr (Rose-since first before now (sink_faults_later e first before sink) rose)) closed.whole;
-}
-
--- a run that found no memory to begin
-pub no_memory_told : (script : Option (List ℕ)) (world : Option World) (kept : Type 0) (run : List ℕ → World → Run) (t told : Option (List ℕ)) → IfSome script (λ bytes. IfSome world (λ w. kept → Ends NoMemory (run bytes w) t t told))
-no_memory_told None world kept run t told = tt
-no_memory_told (Some bytes) None kept run t told = tt
-no_memory_told (Some bytes) (Some w) kept run t told = λ same. record { replies = []; entropy = []; taken = Appends-nil t; ends = ((run bytes w).replies, refl); leaves = tt }
-
--- the status of an answered run
-
-status_by : (e : Ending) (run : Run) (replies entropy : List ℕ) → EndsAs e run replies entropy → IsAnswered (status_of e) → run.status ≡ status_of e
-status_by Done run replies entropy ends answered = ap (λ (r : Run). r.status) ends
-status_by Usage run replies entropy ends answered = ap (λ (r : Run). r.status) ends
-status_by (BadLine number at) run replies entropy ends answered = ap (λ (r : Run). r.status) ends
-status_by ReadFault run replies entropy ends answered = absurd (read_fault_unanswered answered)
-status_by WriteFault run replies entropy ends answered = absurd (write_fault_unanswered answered)
-status_by NoMemory run replies entropy ends answered = absurd (no_memory_unanswered answered)
-
-closed_same : (e closed : Ending) → ClosesAs e closed → IsAnswered (status_of closed) → status_of closed ≡ status_of e
-closed_same (BadLine number at) closed closes_as answered =
-    ⊎_elim (λ same. ap status_of same) (λ none. absurd (no_memory_unanswered (subst (λ x. IsAnswered (status_of x)) none answered))) closes_as
-closed_same Done closed closes_as answered = ap status_of closes_as
-closed_same Usage closed closes_as answered = ap status_of closes_as
-closed_same ReadFault closed closes_as answered = ap status_of closes_as
-closed_same WriteFault closed closes_as answered = ap status_of closes_as
-closed_same NoMemory closed closes_as answered = ap status_of closes_as
-
-pub answered_told : (script : Option (List ℕ)) (world : Option World) (kept : Type 0) (run : List ℕ → World → Run) (e closed : Ending) (t0 t1 told : Option (List ℕ))
-    → IfSome script (λ bytes. IfSome world (λ w. kept → Ends e (run bytes w) t0 t1 told)) → ClosesAs e closed
-    → IfSome script (λ bytes. IfSome world (λ w. kept → IsAnswered (status_of closed) → (run bytes w).status ≡ status_of closed))
-answered_told None world kept run e closed t0 t1 told ends closes_as = tt
-answered_told (Some bytes) None kept run e closed t0 t1 told ends closes_as = tt
-answered_told (Some bytes) (Some w) kept run e closed t0 t1 told ends closes_as = λ same answered.
-    let here : Ends e (run bytes w) t0 t1 told = ends same in
-    status_by e (run bytes w) here.replies here.entropy here.ends (answered_as e closed closes_as answered) ∙ sym (closed_same e closed closes_as answered)
-
--- where no fault is counted and no line is bad, the run is answered or finds no memory
-
-completes : (e closed : Ending) (run : Run) (replies entropy : List ℕ) (s0 s1 o0 o1 o2 : ℕ) → EndsAs e run replies entropy → ClosesAs e closed → SourceFaults (Some e) s0 s1 → SinkFaults (Some e) o0 o1 → o1 ≤ o2
-    → run.status ≡ 0 → (Rose s0 s1 → ⊥) → (Rose o0 o2 → ⊥) → (status_of closed ≡ 0) ⊎ (status_of closed ≡ 12)
-completes Done closed run replies entropy s0 s1 o0 o1 o2 ends closes_as source sink later good read write = inl (ap status_of closes_as)
-completes Usage closed run replies entropy s0 s1 o0 o1 o2 ends closes_as source sink later good read write = absurd (let two : run.status ≡ 2 = ap (λ (r : Run). r.status) ends in omega arith)
-completes (BadLine number at) closed run replies entropy s0 s1 o0 o1 o2 ends closes_as source sink later good read write =
-    absurd (let three : run.status ≡ 3 = ap (λ (r : Run). r.status) ends in omega arith)
-completes ReadFault closed run replies entropy s0 s1 o0 o1 o2 ends closes_as source sink later good read write = absurd (read source.1)
-completes WriteFault closed run replies entropy s0 s1 o0 o1 o2 ends closes_as source sink later good read write = absurd (write (Rose-before o0 o1 o2 later sink.1)) where
-  Rose-before : (first before now : ℕ) → before ≤ now → Rose first before → Rose first now
-  Rose-before first before now later rose = omega arith
-completes NoMemory closed run replies entropy s0 s1 o0 o1 o2 ends closes_as source sink later good read write = inr (ap status_of closes_as)
-
-pub completes_told : (script : Option (List ℕ)) (world : Option World) (kept : Type 0) (run : List ℕ → World → Run) (e closed : Ending) (t0 t1 told : Option (List ℕ)) (s0 s1 o0 o1 o2 : ℕ)
-    → IfSome script (λ bytes. IfSome world (λ w. kept → Ends e (run bytes w) t0 t1 told)) → ClosesAs e closed → SourceFaults (Some e) s0 s1 → SinkFaults (Some e) o0 o1 → o1 ≤ o2
-    → IfSome script (λ bytes. IfSome world (λ w. kept → (run bytes w).status ≡ 0 → (Rose s0 s1 → ⊥) → (Rose o0 o2 → ⊥) → (status_of closed ≡ 0) ⊎ (status_of closed ≡ 12)))
-completes_told None world kept run e closed t0 t1 told s0 s1 o0 o1 o2 ends closes_as source sink later = tt
-completes_told (Some bytes) None kept run e closed t0 t1 told s0 s1 o0 o1 o2 ends closes_as source sink later = tt
-completes_told (Some bytes) (Some w) kept run e closed t0 t1 told s0 s1 o0 o1 o2 ends closes_as source sink later = λ same good read write.
-    let here : Ends e (run bytes w) t0 t1 told = ends same in
-    completes e closed (run bytes w) here.replies here.entropy s0 s1 o0 o1 o2 here.ends closes_as source sink later good read write
-
--- the whole output of an answered run, where no fault of the sink was counted
-
-answered_line : (status : ℕ) (run : Run) → IsAnswered status → last_line status run ≡ run.last
-answered_line status run answered =
-    ⊎_elim (λ done. rw done refl) (λ other. ⊎_elim (λ usage. rw usage refl) (λ bad. rw bad refl) other) answered
-
-wrote_exactly : (run : Run) (status : ℕ) (rose : Type 0) (before after : List ℕ) → Wrote run status rose before after → IsAnswered status → (rose → ⊥) → after ≡ before ++ output_of run
-wrote_exactly run status rose before after wrote answered kept =
-    let whole : wrote.last ≡ run.last = ⊎_elim (λ same. same ∙ answered_line status run answered) (λ h. absurd (kept h)) wrote.whole in
-    wrote.written ∙ append_assoc before wrote.replies wrote.last
-    ∙ ap (λ (xs : List ℕ). before ++ (xs ++ wrote.last)) (wrote.answered answered).1
-    ∙ ap (λ (xs : List ℕ). before ++ (run.replies ++ xs)) whole
-
-pub exact_where_told : (script : Option (List ℕ)) (world : Option World) (kept : Type 0) (run : List ℕ → World → Run) (status : ℕ) (rose : Type 0) (t0 t2 : Option (List ℕ))
-    → IfSome script (λ bytes. IfSome world (λ w. kept → IfSome t0 (λ before. IfSome t2 (λ after. Wrote (run bytes w) status rose before after))))
-    → IfSome script (λ bytes. IfSome world (λ w. kept → IfSome t0 (λ before. IfSome t2 (λ after. IsAnswered status → (rose → ⊥) → after ≡ before ++ output_of (run bytes w)))))
-exact_where_told None world kept run status rose t0 t2 wrote = tt
-exact_where_told (Some bytes) None kept run status rose t0 t2 wrote = tt
-exact_where_told (Some bytes) (Some w) kept run status rose None t2 wrote = λ same. tt
-exact_where_told (Some bytes) (Some w) kept run status rose (Some before) None wrote = λ same. tt
-exact_where_told (Some bytes) (Some w) kept run status rose (Some before) (Some after) wrote = λ same. wrote_exactly (run bytes w) status rose before after (wrote same)
+pub line_past : (told : Option (List ℕ)) (line : List ℕ) → IfSome told (λ bytes. Some line ≡ next_line bytes)
+    → IfSome told (λ bytes. (found : List FoundEntry) → (w : World) → EndsAs (BadLine 1048577 0) (run_from 1048577 (lines bytes) found w) [] w.entropy)
+line_past None line next = tt
+line_past (Some bytes) line next = λ found w. one_line_past line (lines (rest_of bytes)) bytes found w (lines_next bytes ∙ rw (← next) refl)

@@ -26,12 +26,19 @@ closing_line ReadFault = read_fault_line
 closing_line WriteFault = []
 closing_line NoMemory = no_memory_line
 
+-- a run that has this status, and these replies, last line and entropy
+pub record IsEnd (run : Run) (code : ℕ) (written line left : List ℕ) : Type 0 where
+  pub status : run.status ≡ code
+  pub replies : run.replies ≡ written
+  pub last : run.last ≡ line
+  pub entropy : run.entropy ≡ left
+
 -- What the run was to do, where it ends so after these replies, with this entropy left: an answered run has all of them, any other
 -- a front of them.
 abbrev pub EndsAs : Ending → Run → (replies entropy : List ℕ) → Type 0
-EndsAs Done run replies entropy = run ≡ record { status = 0; replies = replies; last = []; entropy = entropy }
-EndsAs Usage run replies entropy = run ≡ record { status = 2; replies = replies; last = usage_line; entropy = entropy }
-EndsAs (BadLine number at) run replies entropy = run ≡ record { status = 3; replies = replies; last = bad_line number at; entropy = entropy }
+EndsAs Done run replies entropy = IsEnd run 0 replies [] entropy
+EndsAs Usage run replies entropy = IsEnd run 2 replies usage_line entropy
+EndsAs (BadLine number at) run replies entropy = IsEnd run 3 replies (bad_line number at) entropy
 EndsAs ReadFault run replies entropy = IsFront replies run.replies
 EndsAs WriteFault run replies entropy = IsFront replies run.replies
 EndsAs NoMemory run replies entropy = IsFront replies run.replies

@@ -1,4 +1,5 @@
 pub mod Texts
+pub mod Failing
 pub mod Transcript
 pub mod Written
 pub mod Answers

@@ -1,5 +1,5 @@
 -- How far a run has come.
-use Rattle.std.specs.Prelude.{Result, Ok, Err, ◌≡◌, ◌⊎◌, ℕ, ◌+◌, ◌<◌, List, [], ◌∷◌, ◌++◌, length, IfSome, IsSomeAnd}
+use Rattle.std.specs.Prelude.{Result, Ok, Err, ◌≡◌, ◌⊎◌, ℕ, ◌+◌, ◌<◌, ◌≤◌, List, [], ◌∷◌, ◌++◌, length, IfSome, IsSomeAnd}
 use Rattle.std.specs.declared.option.Option.{Option}
 use Rattle.std.specs.declared.option.Option.TheVariants.{Some, None}
 use Rattle.std.specs.Option.{option_map}
@@ -9,6 +9,8 @@ use Rattle.shell_lines.specs.declared.line.Line.{Line}
 use Rattle.shell_run.specs.declared.ending.Ending.{Ending}
 use Rattle.shell_run.specs.declared.ending.Ending.TheVariants.{Done, Usage, BadLine, ReadFault, WriteFault, NoMemory}
 use Rattle.shell_run.specs.Endings.{EndsAs, Leaves}
+use Rattle.shell_run.specs.declared.found.FoundEntry.{FoundEntry}
+use Rattle.shell_run.specs.Failing.{Failing, failing}
 use Rattle.shell_run.specs.Transcript.{World, Run, preceded, run_from, answer_of}
 use Rattle.shell_run.specs.Written.{IsFront}
 
@@ -27,13 +29,14 @@ abbrev pub Taken : Ending → Option (List ℕ) → Option (List ℕ) → List �
 Taken WriteFault before after bytes = Took before after bytes
 Taken ending before after bytes = Appends before after bytes
 
--- The run ends so, after the replies that the sink has taken, and with the entropy that is told.
-pub record Ends (ending : Ending) (run : Run) (before after told : Option (List ℕ)) : Type 0 where
+-- The run ends so, after the replies that the sink has taken, with the entropy that is told, and with these failed takings.
+pub record Ends (ending : Ending) (run : Run) (before after told : Option (List ℕ)) (found : List FoundEntry) : Type 0 where
   pub replies : List ℕ
   pub entropy : List ℕ
   pub taken : Taken ending before after replies
   pub ends : EndsAs ending run replies entropy
   pub leaves : Leaves ending told entropy
+  pub failed : run.failed ≡ found
 
 -- a sink has taken a front of these bytes
 pub record TookFront (bytes : List ℕ) (before after : Option (List ℕ)) : Type 0 where
@@ -62,23 +65,33 @@ TakesNone NoMemory number bytes left = Unit {0}
 TakesNone Usage number bytes left = ⊥
 TakesNone WriteFault number bytes left = ⊥
 
--- The bytes of line n spelled this outcome, and it was carried out and its reply taken by the sink; or the run ends there. `kept`
--- says that no taking failed.
-abbrev pub Replied : Option Ending → ℕ → Result Line ℕ → (old new : Option World) (kept : Type 0) (before after : Option (List ℕ)) → Type 0
-Replied None n (Ok line) old new kept before after =
-    IfSome old (λ w. kept → (new ≡ Some (answer_of n w line).world) × Appends before after (answer_of n w line).output)
-Replied None n (Err at) old new kept before after = ⊥
-Replied (Some WriteFault) n (Ok line) old new kept before after = IfSome old (λ w. kept → TookFront (answer_of n w line).output before after)
-Replied (Some (BadLine number at)) n outcome old new kept before after = (number ≡ n) × (outcome ≡ Err at) × (after ≡ before) × (new ≡ old)
-Replied (Some NoMemory) n outcome old new kept before after = after ≡ before
-Replied (Some ending) n outcome old new kept before after = ⊥
+-- The bytes of line n spelled this outcome, and it was carried out and its reply taken by the sink; or the run ends there.
+abbrev pub Replied : Option Ending → ℕ → Failing → Result Line ℕ → (old new : Option World) (before after : Option (List ℕ)) → Type 0
+Replied None n fails (Ok line) old new before after =
+    IfSome old (λ w. (new ≡ Some (answer_of n fails w line).world) × Appends before after (answer_of n fails w line).output)
+Replied None n fails (Err at) old new before after = ⊥
+Replied (Some WriteFault) n fails (Ok line) old new before after = IfSome old (λ w. TookFront (answer_of n fails w line).output before after)
+Replied (Some (BadLine number at)) n fails outcome old new before after = (number ≡ n) × (outcome ≡ Err at) × (after ≡ before) × (new ≡ old)
+Replied (Some NoMemory) n fails outcome old new before after = after ≡ before
+Replied (Some ending) n fails outcome old new before after = ⊥
 
 -- the entropy of a world, where it is told
 abbrev pub entropy_of : Option World → Option (List ℕ)
 entropy_of world = option_map (λ w. w.entropy) world
 
--- line n was answered and the run goes on, or it ends there
-abbrev pub LineRan : Option Ending → ℕ → List ℕ → Option (List ℕ) → (old new : Option World) (kept : Type 0) (before after : Option (List ℕ)) → Type 0
-LineRan None n bytes left old new kept before after =
-    IsSomeAnd left (λ rest. IfSome old (λ w. kept → IsSomeAnd new (λ v. Goes (run_from n (lines bytes) w) (run_from (n + 1) (lines rest) v) before after)))
-LineRan (Some ending) n bytes left old new kept before after = IfSome old (λ w. kept → Ends ending (run_from n (lines bytes) w) before after (entropy_of new))
+-- a list says the same of line n as what that line has listed
+abbrev pub AgreesAt : ℕ → (listed found : List FoundEntry) → Type 0
+AgreesAt n listed found = failing n found ≡ failing n listed
+
+-- a list says nothing of the lines from number n on
+abbrev pub IsSilentFrom : ℕ → List FoundEntry → Type 0
+IsSilentFrom n found = (m : ℕ) → n ≤ m → failing m found ≡ failing m []
+
+-- Line n, which has listed these takings, was answered and the run goes on, or it ends there; so of each run whose list agrees.
+abbrev pub LineRan : Option Ending → ℕ → List ℕ → Option (List ℕ) → (old new : Option World) (listed after_line : List FoundEntry) (before after : Option (List ℕ)) → Type 0
+LineRan None n bytes left old new listed after_line before after =
+    IsSomeAnd left (λ rest. IfSome old (λ w. (found : List FoundEntry) → AgreesAt n listed found →
+    IsSomeAnd new (λ v. Goes (run_from n (lines bytes) found w) (run_from (n + 1) (lines rest) found v) before after)))
+LineRan (Some ending) n bytes left old new listed after_line before after =
+    IfSome old (λ w. (found : List FoundEntry) → AgreesAt n listed found → IsSilentFrom (n + 1) found →
+    Ends ending (run_from n (lines bytes) found w) before after (entropy_of new) after_line)

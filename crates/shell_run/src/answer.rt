@@ -1,13 +1,14 @@
 // What a line of a script does, and what it prints.
-ghost use Rattle.std.specs.Prelude.{◌≡◌, ◌≤◌, OnOk, length, false};
+ghost use Rattle.std.specs.Prelude.{◌≡◌, ◌≤◌, IfSome, OnOk, length, false};
 ghost use Rattle.dataset_tree.specs.Refusal.{Gives};
 ghost use Rattle.dataset_tree.specs.SetName.{named};
 ghost use Rattle.encryption_roots.specs.declared.command.KeyCmd.TheVariants as commands;
 ghost use Rattle.shell_lines.specs.Grammar.{line_of};
 ghost use Rattle.shell_lines.specs.Sized.{HasRecordSize};
-ghost use Rattle.shell_run.specs.Answers.{AnswersTo, CarriesOut, Commands, Shows};
-ghost use Rattle.shell_run.specs.Takings.{Found as Lists, IsSized};
-ghost use Rattle.shell_run.specs.Transcript.{told_world, command_named};
+ghost use Rattle.shell_run.specs.Answers.{AnswersTo, CarriesOut, Commands, Shows, listed_after, listed_for};
+ghost use Rattle.shell_run.specs.Failing.{failing_since};
+ghost use Rattle.shell_run.specs.Takings.{Lists, IsSized};
+ghost use Rattle.shell_run.specs.Transcript.{told_world, answer_of, command_named};
 
 use crate::command::{Shown, execute};
 use crate::found::Found;
@@ -31,9 +32,11 @@ pub(crate) fn answer<F: KeyFiles, E: Entropy>(
     output: &mut Vec<u8>,
 ) -> Result<(), LineStop>
     requires { length bytes.now ≤ 65536 }
-    ensures told { AnswersTo number (line_of bytes.now 0) (told_world keys.old (F.files files.old) (E.left entropy.old))
-        (told_world keys.new (F.files files.new) (E.left entropy.new)) (found.new ≡ found.old) output.old.items output.new.items result }
-    ensures takings { Lists found.old found.new (F.faults files.old) (F.faults files.new) (E.faults entropy.old) (E.faults entropy.new) }
+    ensures told { AnswersTo number (failing_since number found.old found.new) (line_of bytes.now 0) (told_world keys.old (F.files files.old) (E.left entropy.old) found.old)
+        (told_world keys.new (F.files files.new) (E.left entropy.new) found.new) output.old.items output.new.items result }
+    ensures failed { IfSome (told_world keys.old (F.files files.old) (E.left entropy.old) found.old) (λ w.
+        found.new ≡ listed_after number (failing_since number found.old found.new) w (line_of bytes.now 0)) }
+    ensures takings { Lists (λ line. line ≡ number) found.old found.new (F.faults files.old) (F.faults files.new) (E.faults entropy.old) (E.faults entropy.new) }
 {
     let line = parse_line(alloc, bytes, 0)?;
     carry_out(alloc, keys, files, entropy, found, number, &line, output)?;
@@ -51,9 +54,11 @@ fn carry_out<F: KeyFiles, E: Entropy>(
     output: &mut Vec<u8>,
 ) -> Result<(), NoMemory>
     requires { HasRecordSize line.now }
-    ensures told { OnOk result (CarriesOut number line.now (told_world keys.old (F.files files.old) (E.left entropy.old))
-        (told_world keys.new (F.files files.new) (E.left entropy.new)) (found.new ≡ found.old) output.old.items output.new.items) }
-    ensures takings { Lists found.old found.new (F.faults files.old) (F.faults files.new) (E.faults entropy.old) (E.faults entropy.new) }
+    ensures told { OnOk result (CarriesOut number (failing_since number found.old found.new) line.now (told_world keys.old (F.files files.old) (E.left entropy.old) found.old)
+        (told_world keys.new (F.files files.new) (E.left entropy.new) found.new) output.old.items output.new.items) }
+    ensures failed { IfSome (told_world keys.old (F.files files.old) (E.left entropy.old) found.old) (λ w.
+        found.new ≡ (answer_of number (failing_since number found.old found.new) w line.now).world.failed) }
+    ensures takings { Lists (λ line. line ≡ number) found.old found.new (F.faults files.old) (F.faults files.new) (E.faults entropy.old) (E.faults entropy.new) }
 {
     match line {
         Line::Silent => Ok(()),
@@ -92,9 +97,11 @@ fn run_command<F: KeyFiles, E: Entropy>(
     output: &mut Vec<u8>,
 ) -> Result<(), NoMemory>
     requires { IsSized command }
-    ensures told { OnOk result (Commands number command (told_world keys.old (F.files files.old) (E.left entropy.old))
-        (told_world keys.new (F.files files.new) (E.left entropy.new)) (found.new ≡ found.old) output.old.items output.new.items) }
-    ensures takings { Lists found.old found.new (F.faults files.old) (F.faults files.new) (E.faults entropy.old) (E.faults entropy.new) }
+    ensures told { OnOk result (Commands number (failing_since number found.old found.new) command (told_world keys.old (F.files files.old) (E.left entropy.old) found.old)
+        (told_world keys.new (F.files files.new) (E.left entropy.new) found.new) output.old.items output.new.items) }
+    ensures failed { IfSome (told_world keys.old (F.files files.old) (E.left entropy.old) found.old) (λ w.
+        found.new ≡ listed_for number (failing_since number found.old found.new) w command) }
+    ensures takings { Lists (λ line. line ≡ number) found.old found.new (F.faults files.old) (F.faults files.new) (E.faults entropy.old) (E.faults entropy.new) }
 {
     match command {
         Ok(command) => {

@@ -1,11 +1,12 @@
 // A key command: what it takes, and what it does.
-ghost use Rattle.std.specs.Prelude.{◌≡◌, true, is_some, IfOk, IfSome, OnOk};
+ghost use Rattle.std.specs.Prelude.{◌≡◌, ◌≤◌, ◌++◌, true, is_some, IfOk, IfSome, OnOk};
 ghost use Rattle.dataset_tree.specs.Refusal.{Gives};
 ghost use Rattle.edge_io.specs.Faults.{Rose};
 ghost use Rattle.key_machine.specs.Fair.{Suffices, WasAsked, SeedWasAsked};
 ghost use Rattle.key_store.specs.Calls.{stepped, state_after};
-ghost use Rattle.shell_run.specs.Takings.{Found as Lists, FoundBy, ListsOne, ListsKit, HasSize, HasWanted, Executes, shown_of};
-ghost use Rattle.shell_run.specs.Transcript.{told_world, commanded, material_at, seed_from, entropy_left};
+ghost use Rattle.shell_run.specs.Failing.{failing_since, failed_takings};
+ghost use Rattle.shell_run.specs.Takings.{Lists, HasSize, HasWanted, Executes, is_fault, is_seed_fault, listed_fetch, listed_fill, shown_of, wants_of};
+ghost use Rattle.shell_run.specs.Transcript.{told_world, commanded, kit_of, material_at, seed_from, entropy_left};
 
 use crate::found::{Found, FoundKind};
 use dataset_tree::{NoMemory, Refusal, Stop};
@@ -32,9 +33,11 @@ pub(crate) fn execute<F: KeyFiles, E: Entropy>(
     command: &KeyCmd,
 ) -> Result<Shown, Stop>
     requires { HasSize command.now }
-    ensures told { IfSome (told_world keys.old (F.files files.old) (E.left entropy.old)) (λ w. found.new ≡ found.old →
-        Executes result (commanded w command.now) (told_world keys.new (F.files files.new) (E.left entropy.new))) }
-    ensures takings { Lists found.old found.new (F.faults files.old) (F.faults files.new) (E.faults entropy.old) (E.faults entropy.new) }
+    ensures told { IfSome (told_world keys.old (F.files files.old) (E.left entropy.old) found.old) (λ w.
+        Executes result (commanded number (failing_since number found.old found.new) w command.now) (told_world keys.new (F.files files.new) (E.left entropy.new) found.new)) }
+    ensures failed { IfSome (told_world keys.old (F.files files.old) (E.left entropy.old) found.old) (λ w.
+        found.new ≡ (commanded number (failing_since number found.old found.new) w command.now).world.failed) }
+    ensures takings { Lists (λ line. line ≡ number) found.old found.new (F.faults files.old) (F.faults files.new) (E.faults entropy.old) (E.faults entropy.new) }
     // These two refusals come only where a taking for this line failed.
     ensures key_fault { result ≡ Err (Stop.Refused Refusal.KeyFault) → Rose (F.faults files.old) (F.faults files.new) }
     ensures entropy_fault { result ≡ Err (Stop.Refused Refusal.EntropyFault) → Rose (E.faults entropy.old) (E.faults entropy.new) }
@@ -88,15 +91,17 @@ fn take_kit<F: KeyFiles, E: Entropy>(
     number: u32,
     needs: &Needs,
 ) -> Result<LineKit, NoMemory>
-    ensures kit { IfOk result (λ kit. IfSome (F.files files.old) (λ told. IfSome (E.left entropy.old) (λ left. found.new ≡ found.old →
-        kit ≡ record { old_key = material_at told needs.now.old_place; new_key = material_at told needs.now.new_place; seed = seed_from needs.now.seed left }))) }
-    ensures files { OnOk result (found.new ≡ found.old → F.files files.new ≡ F.files files.old) }
-    ensures left { OnOk result (IfSome (E.left entropy.old) (λ left. found.new ≡ found.old → E.left entropy.new ≡ Some (entropy_left needs.now.seed left))) }
+    ensures kit { IfOk result (λ kit. IfSome (F.files files.old) (λ told. IfSome (E.left entropy.old) (λ left.
+        kit ≡ kit_of (failing_since number found.old found.new) told left (wants_of needs.now)))) }
+    ensures failed { IfSome (F.files files.old) (λ told. IfSome (E.left entropy.old) (λ left.
+        found.new ≡ found.old ++ failed_takings number (kit_of (failing_since number found.old found.new) told left (wants_of needs.now)))) }
+    ensures files { F.files files.new ≡ F.files files.old }
+    ensures left { OnOk result (IfSome (E.left entropy.old) (λ left.
+        E.left entropy.new ≡ Some (entropy_left (failing_since number found.old found.new).seed left needs.now.seed))) }
     ensures asked { IfOk result (λ kit. HasWanted needs.now kit) }
-    ensures order { OnOk result (ListsKit number found.old found.new) }
     ensures key_fault { IfOk result (λ kit. kit.new_key ≡ Fetched.Fault → Rose (F.faults files.old) (F.faults files.new)) }
     ensures entropy_fault { IfOk result (λ kit. kit.seed ≡ SeedGot.Fault → Rose (E.faults entropy.old) (E.faults entropy.new)) }
-    ensures takings { Lists found.old found.new (F.faults files.old) (F.faults files.new) (E.faults entropy.old) (E.faults entropy.new) }
+    ensures takings { Lists (λ line. line ≡ number) found.old found.new (F.faults files.old) (F.faults files.new) (E.faults entropy.old) (E.faults entropy.new) }
 {
     let old_key = take_material(
         alloc,
@@ -131,12 +136,12 @@ fn take_material<F: KeyFiles>(
     what: FoundKind,
     place: &Option<Location>,
 ) -> Result<Fetched, NoMemory>
-    ensures material { IfOk result (λ fetched. IfSome (F.files files.old) (λ told. found.new ≡ found.old → fetched ≡ material_at told place.now)) }
-    ensures files { OnOk result (found.new ≡ found.old → F.files files.new ≡ F.files files.old) }
+    ensures material { IfOk result (λ fetched. IfSome (F.files files.old) (λ told. fetched ≡ material_at (is_fault fetched) told place.now)) }
+    ensures files { F.files files.new ≡ F.files files.old }
     ensures asked { IfOk result (λ fetched. is_some place.now ≡ true → WasAsked fetched) }
     ensures failed { IfOk result (λ fetched. fetched ≡ Fetched.Fault → Rose (F.faults files.old) (F.faults files.new)) }
-    ensures listed { ListsOne number what found.old found.new }
-    ensures takings { FoundBy found.old found.new (F.faults files.old) (F.faults files.new) }
+    ensures listed { found.new ≡ found.old ++ listed_fetch number what result }
+    ensures later { F.faults files.old ≤ F.faults files.new }
 {
     match place {
         None => Ok(Fetched::NotAsked),
@@ -160,12 +165,12 @@ fn take_seed<E: Entropy>(
     number: u32,
     is_needed: bool,
 ) -> Result<SeedGot, NoMemory>
-    ensures seed { IfOk result (λ seed. IfSome (E.left entropy.old) (λ left. found.new ≡ found.old → seed ≡ seed_from is_needed left)) }
-    ensures left { OnOk result (IfSome (E.left entropy.old) (λ left. found.new ≡ found.old → E.left entropy.new ≡ Some (entropy_left is_needed left))) }
+    ensures seed { IfOk result (λ seed. IfSome (E.left entropy.old) (λ left. seed ≡ seed_from (is_seed_fault seed) left is_needed)) }
+    ensures left { IfOk result (λ seed. IfSome (E.left entropy.old) (λ left. E.left entropy.new ≡ Some (entropy_left (is_seed_fault seed) left is_needed))) }
     ensures asked { IfOk result (λ seed. is_needed ≡ true → SeedWasAsked seed) }
     ensures failed { IfOk result (λ seed. seed ≡ SeedGot.Fault → Rose (E.faults entropy.old) (E.faults entropy.new)) }
-    ensures listed { ListsOne number FoundKind.Seed found.old found.new }
-    ensures takings { FoundBy found.old found.new (E.faults entropy.old) (E.faults entropy.new) }
+    ensures listed { found.new ≡ found.old ++ listed_fill number result }
+    ensures later { E.faults entropy.old ≤ E.faults entropy.new }
 {
     if !is_needed {
         return Ok(SeedGot::NotAsked);

@@ -1,5 +1,5 @@
 // A run: the lines of a script, one after another.
-ghost use Rattle.std.specs.Prelude.{◌≡◌, ◌≢◌, ◌≤◌, ◌+◌, ◌++◌, ◌⊎◌, [], ℕ, IfOk, IfErr, IfSome, OnOk, Some, None, length};
+ghost use Rattle.std.specs.Prelude.{◌≡◌, ◌≢◌, ◌≤◌, ◌+◌, ◌++◌, ◌⊎◌, [], ℕ, List, IfOk, IfErr, IfSome, OnOk, Some, None, length};
 ghost use Rattle.std.specs.Io.KnownBytes.{Appends};
 ghost use Rattle.std.specs.Result.{result_err};
 ghost use Rattle.key_machine.specs.Plain.{no_keys};
@@ -9,8 +9,11 @@ ghost use Rattle.edge_io.specs.Told.{unread};
 ghost use Rattle.shell_lines.specs.Grammar.{line_of};
 ghost use Rattle.shell_run.specs.Endings.{EndsAs, closing_line, SourceFaults, SinkFaults, ClosesAs};
 ghost use Rattle.shell_run.specs.Progress.{Ends, Closes, LineRan, TakesLine, TakesNone, TookFront, Replied};
-ghost use Rattle.shell_run.specs.Transcript.{World, told_world, run_from, transcript, output_of};
-ghost use Rattle.shell_run.specs.Takings.{Found as Lists};
+ghost use Rattle.shell_run.specs.Transcript.{World, told_transcript, told_world, run_from, transcript, output_of};
+ghost use Rattle.shell_run.specs.Answers.{listed_after};
+ghost use Rattle.shell_run.specs.declared.found.FoundEntry.{FoundEntry};
+ghost use Rattle.shell_run.specs.Failing.{failing_since, since};
+ghost use Rattle.shell_run.specs.Takings.{Lists};
 ghost use Rattle.shell_run.specs.Written.{IsAnswered, Wrote};
 
 use crate::answer::answer;
@@ -59,23 +62,20 @@ pub fn run_alone<S: Source, O: Sink, F: KeyFiles, E: Entropy>(
 ) -> u8
     requires { found.old ≡ [] }
 
-    // Where script, output, key files and entropy are told and no taking failed, what was written is the transcript.
-    ensures transcript { IfSome (S.left script.old) (λ bytes. IfSome (told_world no_keys (F.files files.old) (E.left entropy.old)) (λ w. found.new ≡ [] →
+    // Where script, output, key files and entropy are told, what was written is the transcript where the listed takings fail.
+    ensures transcript { IfSome (told_transcript words.now (S.left script.old) (F.files files.old) (E.left entropy.old) found.new) (λ run.
+        IfSome (O.taken out.old) (λ before. IfSome (O.taken out.new) (λ after. Wrote run result (Rose (O.faults out.old) (O.faults out.new)) before after))) }
+    ensures answered { IfSome (told_transcript words.now (S.left script.old) (F.files files.old) (E.left entropy.old) found.new) (λ run. IsAnswered result → run.status ≡ result) }
+    ensures exact { IfSome (told_transcript words.now (S.left script.old) (F.files files.old) (E.left entropy.old) found.new) (λ run.
         IfSome (O.taken out.old) (λ before. IfSome (O.taken out.new) (λ after.
-        Wrote (transcript words.now bytes w) result (Rose (O.faults out.old) (O.faults out.new)) before after)))) }
-    ensures answered { IfSome (S.left script.old) (λ bytes. IfSome (told_world no_keys (F.files files.old) (E.left entropy.old)) (λ w. found.new ≡ [] →
-        IsAnswered result → (transcript words.now bytes w).status ≡ result)) }
-    ensures exact { IfSome (S.left script.old) (λ bytes. IfSome (told_world no_keys (F.files files.old) (E.left entropy.old)) (λ w. found.new ≡ [] →
-        IfSome (O.taken out.old) (λ before. IfSome (O.taken out.new) (λ after.
-        IsAnswered result → ¬ Rose (O.faults out.old) (O.faults out.new) → after ≡ before ++ output_of (transcript words.now bytes w))))) }
-    ensures left { IfSome (S.left script.old) (λ bytes. IfSome (told_world no_keys (F.files files.old) (E.left entropy.old)) (λ w. found.new ≡ [] →
-        IsAnswered result → E.left entropy.new ≡ Some (transcript words.now bytes w).entropy)) }
+        IsAnswered result → ¬ Rose (O.faults out.old) (O.faults out.new) → after ≡ before ++ output_of run))) }
+    ensures left { IfSome (told_transcript words.now (S.left script.old) (F.files files.old) (E.left entropy.old) found.new) (λ run. IsAnswered result → E.left entropy.new ≡ Some run.entropy) }
+    ensures failed { IfSome (told_transcript words.now (S.left script.old) (F.files files.old) (E.left entropy.old) found.new) (λ run. run.failed ≡ found.new) }
     ensures read_to_its_end { result ≡ 0 → IfSome (S.left script.old) (λ bytes. S.left script.new ≡ Some []) }
 
-    // A script without a bad line is answered where no fault is counted and memory is found.
-    ensures complete { IfSome (S.left script.old) (λ bytes. IfSome (told_world no_keys (F.files files.old) (E.left entropy.old)) (λ w. found.new ≡ [] →
-        (transcript words.now bytes w).status ≡ 0 → ¬ Rose (S.faults script.old) (S.faults script.new) → ¬ Rose (O.faults out.old) (O.faults out.new) →
-        (result ≡ 0) ⊎ (result ≡ 12))) }
+    // A script without a bad line is answered where neither it nor the output counts a fault and memory is found.
+    ensures complete { IfSome (told_transcript words.now (S.left script.old) (F.files files.old) (E.left entropy.old) found.new) (λ run.
+        run.status ≡ 0 → ¬ Rose (S.faults script.old) (S.faults script.new) → ¬ Rose (O.faults out.old) (O.faults out.new) → (result ≡ 0) ⊎ (result ≡ 12)) }
 
     // Every other status has its cause, as has a failed taking.
     ensures statuses { IsAnswered result ⊎ (result ≡ 4) ⊎ (result ≡ 5) ⊎ (result ≡ 12) }
@@ -87,7 +87,8 @@ pub fn run_alone<S: Source, O: Sink, F: KeyFiles, E: Entropy>(
     ensures no_write_fault { result ≡ 0 → O.faults out.new ≡ O.faults out.old }
     ensures read_faults { S.faults script.old ≤ S.faults script.new }
     ensures write_faults { O.faults out.old ≤ O.faults out.new }
-    ensures takings { Lists found.old found.new (F.faults files.old) (F.faults files.new) (E.faults entropy.old) (E.faults entropy.new) }
+    ensures takings { Lists (λ line. line ≤ MAX_LINES) found.old found.new (F.faults files.old) (F.faults files.new) (E.faults entropy.old) (E.faults entropy.new) }
+    ensures none_failed { ¬ Rose (F.faults files.old) (F.faults files.new) → ¬ Rose (E.faults entropy.old) (E.faults entropy.new) → found.new ≡ [] }
 {
     let ending = run_words(alloc, words, script, out, files, entropy, found);
     close(alloc, ending, out).status()
@@ -103,14 +104,14 @@ fn run_words<S: Source, O: Sink, F: KeyFiles, E: Entropy>(
     entropy: &mut E,
     found: &mut Found,
 ) -> Ending
-    ensures told { IfSome (S.left script.old) (λ bytes. IfSome (told_world no_keys (F.files files.old) (E.left entropy.old)) (λ w. found.new ≡ found.old →
-        Ends result (transcript words.now bytes w) (O.taken out.old) (O.taken out.new) (E.left entropy.new))) }
+    ensures told { IfSome (S.left script.old) (λ bytes. IfSome (told_world no_keys (F.files files.old) (E.left entropy.old) found.old) (λ w.
+        Ends result (transcript words.now bytes (since found.old found.new) w) (O.taken out.old) (O.taken out.new) (E.left entropy.new) found.new)) }
     ensures end { result ≡ Ending.Done → IfSome (S.left script.old) (λ bytes. S.left script.new ≡ Some []) }
     ensures usage { words.now ≢ [] → result ≡ Ending.Usage }
     ensures usage_only { result ≡ Ending.Usage → words.now ≢ [] }
     ensures source { SourceFaults (Some result) (S.faults script.old) (S.faults script.new) }
     ensures sink { SinkFaults (Some result) (O.faults out.old) (O.faults out.new) }
-    ensures takings { Lists found.old found.new (F.faults files.old) (F.faults files.new) (E.faults entropy.old) (E.faults entropy.new) }
+    ensures takings { Lists (λ line. line ≤ MAX_LINES) found.old found.new (F.faults files.old) (F.faults files.new) (E.faults entropy.old) (E.faults entropy.new) }
 {
     match words {
         [] => run_script(alloc, script, out, files, entropy, found),
@@ -127,13 +128,13 @@ fn run_script<S: Source, O: Sink, F: KeyFiles, E: Entropy>(
     entropy: &mut E,
     found: &mut Found,
 ) -> Ending
-    ensures told { IfSome (S.left script.old) (λ bytes. IfSome (told_world no_keys (F.files files.old) (E.left entropy.old)) (λ w. found.new ≡ found.old →
-        Ends result (run_from 1 (lines bytes) w) (O.taken out.old) (O.taken out.new) (E.left entropy.new))) }
+    ensures told { IfSome (S.left script.old) (λ bytes. IfSome (told_world no_keys (F.files files.old) (E.left entropy.old) found.old) (λ w.
+        Ends result (run_from 1 (lines bytes) (since found.old found.new) w) (O.taken out.old) (O.taken out.new) (E.left entropy.new) found.new)) }
     ensures end { result ≡ Ending.Done → IfSome (S.left script.old) (λ bytes. S.left script.new ≡ Some []) }
     ensures not_usage { result ≢ Ending.Usage }
     ensures source { SourceFaults (Some result) (S.faults script.old) (S.faults script.new) }
     ensures sink { SinkFaults (Some result) (O.faults out.old) (O.faults out.new) }
-    ensures takings { Lists found.old found.new (F.faults files.old) (F.faults files.new) (E.faults entropy.old) (E.faults entropy.new) }
+    ensures takings { Lists (λ line. line ≤ MAX_LINES) found.old found.new (F.faults files.old) (F.faults files.new) (E.faults entropy.old) (E.faults entropy.new) }
 {
     match start(alloc) {
         Ok((mut reader, mut keys)) => run_lines(
@@ -175,13 +176,13 @@ pub(crate) fn run_lines<S: Source, O: Sink, F: KeyFiles, E: Entropy>(
     found: &mut Found,
 ) -> Ending
     requires { first ≤ MAX_LINES }
-    ensures told { IfSome (unread reader.old (S.left script.old)) (λ bytes. IfSome (told_world keys.old (F.files files.old) (E.left entropy.old)) (λ w. found.new ≡ found.old →
-        Ends result (run_from first (lines bytes) w) (O.taken out.old) (O.taken out.new) (E.left entropy.new))) }
+    ensures told { IfSome (unread reader.old (S.left script.old)) (λ bytes. IfSome (told_world keys.old (F.files files.old) (E.left entropy.old) found.old) (λ w.
+        Ends result (run_from first (lines bytes) (since found.old found.new) w) (O.taken out.old) (O.taken out.new) (E.left entropy.new) found.new)) }
     ensures end { result ≡ Ending.Done → IfSome (unread reader.old (S.left script.old)) (λ bytes. unread reader.new (S.left script.new) ≡ Some []) }
     ensures not_usage { result ≢ Ending.Usage }
     ensures source { SourceFaults (Some result) (S.faults script.old) (S.faults script.new) }
     ensures sink { SinkFaults (Some result) (O.faults out.old) (O.faults out.new) }
-    ensures takings { Lists found.old found.new (F.faults files.old) (F.faults files.new) (E.faults entropy.old) (E.faults entropy.new) }
+    ensures takings { Lists (λ line. line ≤ MAX_LINES) found.old found.new (F.faults files.old) (F.faults files.new) (E.faults entropy.old) (E.faults entropy.new) }
 {
     let mut reply = Vec::new(alloc);
     for number in first..MAX_LINES + 1 {
@@ -196,8 +197,8 @@ pub(crate) fn run_lines<S: Source, O: Sink, F: KeyFiles, E: Entropy>(
 
 /// How a run ends that has answered as many lines as a script may have.
 fn end_at_limit<S: Source>(reader: &mut LineReader, script: &mut S) -> Ending
-    ensures told { IfSome (unread reader.old (S.left script.old)) (λ bytes. (w : World) →
-        EndsAs result (run_from 1048577 (lines bytes) w) [] w.entropy) }
+    ensures told { IfSome (unread reader.old (S.left script.old)) (λ bytes. (found : List FoundEntry) → (w : World) →
+        EndsAs result (run_from 1048577 (lines bytes) found w) [] w.entropy) }
     ensures end { result ≡ Ending.Done → IfSome (unread reader.old (S.left script.old)) (λ bytes. unread reader.new (S.left script.new) ≡ Some []) }
     ensures not_usage { (result ≢ Ending.Usage) × (result ≢ Ending.WriteFault) }
     ensures source { SourceFaults (Some result) (S.faults script.old) (S.faults script.new) }
@@ -226,13 +227,13 @@ fn run_line<S: Source, O: Sink, F: KeyFiles, E: Entropy>(
 ) -> Option<Ending>
     requires { number ≤ MAX_LINES }
     ensures told { IfSome (unread reader.old (S.left script.old)) (λ bytes.
-        LineRan result number bytes (unread reader.new (S.left script.new)) (told_world keys.old (F.files files.old) (E.left entropy.old))
-        (told_world keys.new (F.files files.new) (E.left entropy.new)) (found.new ≡ found.old) (O.taken out.old) (O.taken out.new)) }
+        LineRan result number bytes (unread reader.new (S.left script.new)) (told_world keys.old (F.files files.old) (E.left entropy.old) found.old)
+        (told_world keys.new (F.files files.new) (E.left entropy.new) found.new) (since found.old found.new) found.new (O.taken out.old) (O.taken out.new)) }
     ensures end { result ≡ Some Ending.Done → IfSome (unread reader.old (S.left script.old)) (λ bytes. unread reader.new (S.left script.new) ≡ Some []) }
     ensures not_usage { result ≢ Some Ending.Usage }
     ensures source { SourceFaults result (S.faults script.old) (S.faults script.new) }
     ensures sink { SinkFaults result (O.faults out.old) (O.faults out.new) }
-    ensures takings { Lists found.old found.new (F.faults files.old) (F.faults files.new) (E.faults entropy.old) (E.faults entropy.new) }
+    ensures takings { Lists (λ line. line ≡ number) found.old found.new (F.faults files.old) (F.faults files.new) (E.faults entropy.old) (E.faults entropy.new) }
 {
     match take_line(number, reader, script) {
         Ok(line) => reply_to(
@@ -289,10 +290,11 @@ fn reply_to<O: Sink, F: KeyFiles, E: Entropy>(
     found: &mut Found,
 ) -> Option<Ending>
     requires { length line.now ≤ 65536 }
-    ensures told { Replied result number (line_of line.now 0) (told_world keys.old (F.files files.old) (E.left entropy.old))
-        (told_world keys.new (F.files files.new) (E.left entropy.new)) (found.new ≡ found.old) (O.taken out.old) (O.taken out.new) }
+    ensures told { Replied result number (failing_since number found.old found.new) (line_of line.now 0) (told_world keys.old (F.files files.old) (E.left entropy.old) found.old)
+        (told_world keys.new (F.files files.new) (E.left entropy.new) found.new) (O.taken out.old) (O.taken out.new) }
+    ensures failed { IfSome (told_world keys.old (F.files files.old) (E.left entropy.old) found.old) (λ w. found.new ≡ listed_after number (failing_since number found.old found.new) w (line_of line.now 0)) }
     ensures sink { SinkFaults result (O.faults out.old) (O.faults out.new) }
-    ensures takings { Lists found.old found.new (F.faults files.old) (F.faults files.new) (E.faults entropy.old) (E.faults entropy.new) }
+    ensures takings { Lists (λ line. line ≡ number) found.old found.new (F.faults files.old) (F.faults files.new) (E.faults entropy.old) (E.faults entropy.new) }
 {
     reply.clear();
     match answer(alloc, keys, files, entropy, found, number, line, reply) {

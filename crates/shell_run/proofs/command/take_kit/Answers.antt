@@ -1,26 +1,42 @@
-use Rattle.std.proofs.Common.{◌≡◌, ◌∙◌}
-use Rattle.shell_run.proofs.TakingLemmas.{three_kept, kit_told, left_told}
+use Rattle.std.proofs.Common.{◌≡◌, ◌∙◌, Option, List, ℕ, Ok, Err, refl}
+use Rattle.encryption_roots.specs.declared.kit.Fetched.{Fetched}
+use Rattle.encryption_roots.specs.declared.kit.SeedGot.{SeedGot}
+use Rattle.shell_run.specs.declared.found.FoundKind.TheVariants.{OldKey, NewKey}
+use Rattle.shell_run.specs.Takings.{wants_of}
+use Rattle.shell_run.proofs.TakingLemmas.{takings_told, kit_told, left_told, lists_more, lists_fetch, lists_fill}
 use Rattle.shell_run.proofs.command.take_kit.Goals as goal
 
 pub returns-clause-kit : goal.returns-clause-kit
 returns-clause-kit g c =
-    kit_told (g.F.KeyFiles.files c.args.files.now) (g.F.KeyFiles.files c.take_material.new.files) (g.E.Entropy.left c.args.entropy.now) (c.take_material.new.found ≡ c.args.found.now)
-    (c.take_material-2.new.found ≡ c.take_material.new.found) (c.take_seed.new.found ≡ c.take_material-2.new.found) (c.take_seed.new.found ≡ c.args.found.now) c.in_ok-old_key.old_key c.in_ok-new_key.new_key
-    c.in_ok-seed.seed c.args.needs.now.old_place c.args.needs.now.new_place c.args.needs.now.seed
-    (three_kept c.args.found.now c.take_material.new.found c.take_material-2.new.found c.take_seed.new.found c.take_material.ensures.takings.grew c.take_material-2.ensures.takings.grew c.take_seed.ensures.takings.grew)
-    c.in_ok-old_key.ensures.material c.in_ok-old_key.ensures.files c.in_ok-new_key.ensures.material c.in_ok-seed.ensures.seed
+    kit_told c.args.number c.args.found.now c.take_material.new.found c.take_material-2.new.found c.take_seed.new.found c.in_ok-old_key.old_key c.in_ok-new_key.new_key c.in_ok-seed.seed
+    (g.F.KeyFiles.files c.args.files.now) (g.F.KeyFiles.files c.take_material.new.files) (g.E.Entropy.left c.args.entropy.now) (wants_of c.args.needs.now)
+    c.in_ok-old_key.ensures.listed c.in_ok-new_key.ensures.listed c.in_ok-seed.ensures.listed
+    c.in_ok-old_key.ensures.material c.take_material.ensures.files c.in_ok-new_key.ensures.material c.in_ok-seed.ensures.seed
 
-pub returns-clause-files : goal.returns-clause-files
-returns-clause-files g c = λ same.
-    let each = three_kept c.args.found.now c.take_material.new.found c.take_material-2.new.found c.take_seed.new.found c.take_material.ensures.takings.grew c.take_material-2.ensures.takings.grew c.take_seed.ensures.takings.grew same in
-    c.in_ok-new_key.ensures.files each.1 ∙ c.in_ok-old_key.ensures.files each.0
+pub returns-clause-failed : goal.returns-clause-failed
+returns-clause-failed g c =
+    takings_told {E = Unit {0}} c.args.number c.args.found.now c.take_material.new.found c.take_material-2.new.found c.take_seed.new.found (Ok c.in_ok-old_key.old_key) (Ok c.in_ok-new_key.new_key) (Ok c.in_ok-seed.seed)
+    (g.F.KeyFiles.files c.args.files.now) (g.F.KeyFiles.files c.take_material.new.files) (g.E.Entropy.left c.args.entropy.now) (wants_of c.args.needs.now)
+    c.in_ok-old_key.ensures.listed c.in_ok-new_key.ensures.listed c.in_ok-seed.ensures.listed
+    c.in_ok-old_key.ensures.material c.take_material.ensures.files c.in_ok-new_key.ensures.material c.in_ok-seed.ensures.seed
+
+pub returns-in_err-seed-clause-failed : goal.returns-in_err-seed-clause-failed
+returns-in_err-seed-clause-failed g c =
+    takings_told {E = Unit {0}} c.args.number c.args.found.now c.take_material.new.found c.take_material-2.new.found c.take_seed.new.found (Ok c.in_ok-old_key.old_key) (Ok c.in_ok-new_key.new_key) (Err tt)
+    (g.F.KeyFiles.files c.args.files.now) (g.F.KeyFiles.files c.take_material.new.files) (g.E.Entropy.left c.args.entropy.now) (wants_of c.args.needs.now)
+    c.in_ok-old_key.ensures.listed c.in_ok-new_key.ensures.listed c.in_err-seed.ensures.listed
+    c.in_ok-old_key.ensures.material c.take_material.ensures.files c.in_ok-new_key.ensures.material tt
 
 pub returns-clause-left : goal.returns-clause-left
 returns-clause-left g c =
-    left_told (g.E.Entropy.left c.args.entropy.now) (g.E.Entropy.left c.take_seed.new.entropy) (c.take_seed.new.found ≡ c.take_material-2.new.found) (c.take_seed.new.found ≡ c.args.found.now) c.args.needs.now.seed
-    (λ same. (three_kept c.args.found.now c.take_material.new.found c.take_material-2.new.found c.take_seed.new.found c.take_material.ensures.takings.grew c.take_material-2.ensures.takings.grew c.take_seed.ensures.takings.grew same).2)
-    c.in_ok-seed.ensures.left
+    left_told c.args.number c.args.found.now c.take_material.new.found c.take_material-2.new.found c.take_seed.new.found c.in_ok-old_key.old_key c.in_ok-new_key.new_key c.in_ok-seed.seed
+    (g.E.Entropy.left c.args.entropy.now) (g.E.Entropy.left c.take_seed.new.entropy) c.args.needs.now.seed
+    c.in_ok-old_key.ensures.listed c.in_ok-new_key.ensures.listed c.in_ok-seed.ensures.listed c.in_ok-seed.ensures.left
 
-pub returns-clause-order : goal.returns-clause-order
-returns-clause-order g c =
-    (c.take_material.new.found, c.take_material-2.new.found, c.take_material.ensures.listed, c.take_material-2.ensures.listed, c.take_seed.ensures.listed)
+pub returns-clause-takings : goal.returns-clause-takings
+returns-clause-takings g c =
+    lists_more _ c.args.found.now c.take_material-2.new.found c.take_seed.new.found _ _ _ _ _ _
+    (lists_more _ c.args.found.now c.take_material.new.found c.take_material-2.new.found _ _ _ _ _ _
+    (lists_fetch c.args.number OldKey refl refl c.take_material.result c.args.found.now c.take_material.new.found _ _ (g.E.Entropy.faults c.args.entropy.now) c.take_material.ensures.listed c.take_material.ensures.later c.take_material.ensures.failed)
+    (lists_fetch c.args.number NewKey refl refl c.take_material-2.result c.take_material.new.found c.take_material-2.new.found _ _ (g.E.Entropy.faults c.args.entropy.now) c.take_material-2.ensures.listed c.take_material-2.ensures.later c.take_material-2.ensures.failed))
+    (lists_fill c.args.number c.take_seed.result c.take_material-2.new.found c.take_seed.new.found (g.F.KeyFiles.faults c.take_material-2.new.files) _ _ c.take_seed.ensures.listed c.take_seed.ensures.later c.take_seed.ensures.failed)

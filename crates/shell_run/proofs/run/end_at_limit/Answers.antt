@@ -1,9 +1,14 @@
 use Rattle.std.proofs.Common.{refl, Option, List, ℕ}
 use Rattle.edge_io.specs.Told.{unread}
-use Rattle.shell_run.proofs.RunLemmas.{long_line_past}
+use Rattle.shell_run.proofs.RunLemmas.{long_line_past, line_past}
 use Rattle.shell_run.proofs.run.end_at_limit.Goals as goal
 
 pub returns-in-Err-Long-clause-told : goal.returns-in-Err-Long-clause-told
 returns-in-Err-Long-clause-told g c =
     let told : Option (List ℕ) = unread c.args.reader.now (g.S.Source.left c.args.script.now) in
     long_line_past told (c.in-Err-Long.ensures.long (rw c.in-Err-Long.field-0-is refl))
+
+pub returns-in-Ok-Some-clause-told : goal.returns-in-Ok-Some-clause-told
+returns-in-Ok-Some-clause-told g c =
+    let told : Option (List ℕ) = unread c.args.reader.now (g.S.Source.left c.args.script.now) in
+    line_past told c.in-Ok-Some.field-0-0.items (rw c.in-Ok-Some.field-0-is at c.in-Ok-Some.ensures.line)
