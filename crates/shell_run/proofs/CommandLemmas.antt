@@ -17,7 +17,7 @@ use Rattle.encryption_roots.specs.declared.command.KeyCmd.TheVariants as command
 use Rattle.shell_lines.specs.declared.line.Line.{Line}
 use Rattle.shell_lines.specs.declared.line.Line.TheVariants.{Silent, Create, LoadKey, UnloadKey, Get, List as ListSets}
 use Rattle.shell_run.specs.declared.found.FoundEntry.{FoundEntry}
-use Rattle.shell_run.specs.Failing.{Failing, failing, since, failing_since, failed_takings}
+use Rattle.shell_run.specs.Failing.{Failing, failing, failing_since, failed_takings}
 use Rattle.shell_run.specs.Answers.{Commands, Shows, shown_output, listed_for, listed_after}
 use Rattle.shell_run.specs.declared.command.Shown.{Shown}
 use Rattle.shell_run.specs.Takings.{Executes, shown_of, wants_of}

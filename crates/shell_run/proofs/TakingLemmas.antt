@@ -1,7 +1,7 @@
 -- What is listed of the takings of a line.
-use Rattle.std.proofs.Common.{◌≡◌, ⊎_elim, inl, inr, ℕ, ◌+◌, ◌≤◌, min, Bool, true, false, ◌&&◌, ◌||◌, ◌==◌, List, [], ◌∷◌, ◌++◌, length, drop, if◌then◌else◌, Option, Some, None, Result, Ok, Err, IfOk, IfSome, refl, ap, sym, ◌∙◌, subst, append_assoc, length-append, arith}
+use Rattle.std.proofs.Common.{◌≡◌, ℕ, ◌+◌, ◌≤◌, Bool, true, false, ◌&&◌, ◌||◌, ◌==◌, List, [], ◌∷◌, ◌++◌, length, drop, if◌then◌else◌, Option, Some, None, Result, Ok, Err, IfOk, IfSome, refl, ap, sym, ◌∙◌, subst, append_assoc, arith}
 use Rattle.std.specs.List.{AllByRecursion}
-use Rattle.std.proofs.lemmas.List.{append-nil, drop-append-le}
+use Rattle.std.proofs.lemmas.List.{append-nil}
 use Rattle.std.proofs.Math.Seq.{drop-append_seam, drop-length}
 use Rattle.std.proofs.lemmas.Bool.Decides.{nat_tests}
 use Rattle.edge_io.specs.Faults.{Rose}
@@ -177,6 +177,7 @@ failing_first n xs ys apart = rw (one is_old_key, one is_new_key, one is_seed) r
   or_none : (b : Bool) → b || false ≡ b
   or_none true = refl
   or_none false = refl
+
   one : (is_kind : FoundKind → Bool) → is_listed n is_kind (xs ++ ys) ≡ is_listed n is_kind xs
   one is_kind = listed_both n is_kind xs ys ∙ ap (λ b. is_listed n is_kind xs || b) (not_listed n is_kind ys apart) ∙ or_none (is_listed n is_kind xs)
 

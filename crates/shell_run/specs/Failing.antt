@@ -1,6 +1,5 @@
 -- Which takings fail: a run lists them, and its transcript takes the list as given.
-use Rattle.std.specs.Prelude.{ℕ, Bool, true, false, ◌&&◌, ◌||◌, ◌==◌, List, [], ◌∷◌, ◌++◌, length, drop, Result, Ok, Err}
-use Rattle.dataset_tree.specs.declared.refusal.Stop.{Stop}
+use Rattle.std.specs.Prelude.{ℕ, Bool, true, false, ◌&&◌, ◌||◌, ◌==◌, List, [], ◌∷◌, ◌++◌, length, drop}
 use Rattle.encryption_roots.specs.declared.kit.Fetched.{Fetched}
 use Rattle.encryption_roots.specs.declared.kit.Fetched.TheVariants as fetches
 use Rattle.encryption_roots.specs.declared.kit.SeedGot.{SeedGot}

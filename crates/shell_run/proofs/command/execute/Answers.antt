@@ -1,4 +1,3 @@
-use Rattle.std.proofs.Common.{◌≡◌}
 use Rattle.shell_run.specs.Failing.{failing_since}
 use Rattle.shell_run.proofs.CommandLemmas.{executed, listed_taking, listed_before}
 use Rattle.dataset_tree.specs.declared.refusal.Refusal.TheVariants.{KeyFault, EntropyFault}

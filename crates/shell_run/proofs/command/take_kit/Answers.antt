@@ -1,6 +1,4 @@
-use Rattle.std.proofs.Common.{◌≡◌, ◌∙◌, Option, List, ℕ, Ok, Err, refl}
-use Rattle.encryption_roots.specs.declared.kit.Fetched.{Fetched}
-use Rattle.encryption_roots.specs.declared.kit.SeedGot.{SeedGot}
+use Rattle.std.proofs.Common.{Ok, Err, refl}
 use Rattle.shell_run.specs.declared.found.FoundKind.TheVariants.{OldKey, NewKey}
 use Rattle.shell_run.specs.Takings.{wants_of}
 use Rattle.shell_run.proofs.TakingLemmas.{takings_told, kit_told, left_told, lists_more, lists_fetch, lists_fill}

@@ -1,4 +1,4 @@
-use Rattle.std.proofs.Common.{◌≡◌, ◌≤◌, List, Option, subst}
+use Rattle.std.proofs.Common.{◌≤◌, List, Option, subst}
 use Rattle.edge_io.specs.Faults.{Rose}
 use Rattle.shell_run.specs.declared.found.FoundEntry.{FoundEntry}
 use Rattle.shell_run.specs.Endings.{closing_line}
@@ -61,7 +61,7 @@ returns-clause-complete g c =
     (λ run. Ends ran.result run (g.O.Sink.taken c.args.out.now) (g.O.Sink.taken ran.new.out) (g.E.Entropy.left ran.new.entropy) ran.new.found) c.requires ran.ensures.told) c.close.ensures.ending ran.ensures.source ran.ensures.sink c.close.ensures.later)
 
 pub returns-clause-none_failed : goal.returns-clause-none_failed
-returns-clause-none_failed g c = 
+returns-clause-none_failed g c =
     let ran = c.run_words-ending in
     let Listed : List FoundEntry → Type 0 = λ found. Lists (λ line. line ≤ 1048576) found ran.new.found (g.F.KeyFiles.faults c.args.files.now) (g.F.KeyFiles.faults ran.new.files) (g.E.Entropy.faults c.args.entropy.now) (g.E.Entropy.faults ran.new.entropy) in
     λ files entropy. none_listed (λ line. line ≤ 1048576) ran.new.found (g.F.KeyFiles.faults c.args.files.now) (g.F.KeyFiles.faults ran.new.files) (g.E.Entropy.faults c.args.entropy.now) (g.E.Entropy.faults ran.new.entropy)

@@ -4,7 +4,6 @@ use Rattle.edge_io.specs.Told.{unread}
 use Rattle.std.specs.List.{AllByRecursion}
 use Rattle.shell_run.specs.declared.found.FoundEntry.{FoundEntry}
 use Rattle.shell_run.specs.Failing.{since}
-use Rattle.shell_run.specs.Takings.{Lists}
 use Rattle.shell_run.specs.Transcript.{World, told_world, run_from}
 use Rattle.shell_run.proofs.TakingLemmas.{lists_more, lists_weaker}
 use Rattle.shell_run.proofs.RunLemmas.{Reached, parts_of, reached_more, reached_end, reached_limit, ends_told, failed_told}
