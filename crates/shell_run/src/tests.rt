@@ -208,6 +208,61 @@ fn a_taking_that_fails_leaves_no_dataset(rt: HostRuntime) -> Result<(), Fail> {
     Ok(())
 }
 
+const FAULTY: &[u8] = b"create -o keyformat=raw -o keylocation=file:///k tank
+create -o keyformat=raw -o keylocation=file:///k tank
+create -o keyformat=raw -o keylocation=file:///k lake
+create -o keyformat=raw -o keylocation=file:///k lake
+list
+";
+
+const FAULTY_REPLIES: &[u8] = b"1 error 12 KeyFault
+2 ok
+3 error 13 EntropyFault
+4 error 12 KeyFault
+5 set tank aes-256-gcm root available
+5 ok
+";
+
+const FAILED: [(u32, FoundKind); 4] = [
+    (1, FoundKind::NewKey),
+    (3, FoundKind::Seed),
+    (4, FoundKind::NewKey),
+    (4, FoundKind::Seed),
+];
+
+// Line 1 takes a seed although its key fails, so two seeds are gone before line 3.
+#[test]
+fn a_run_goes_on_behind_failed_takings_and_lists_them(rt: HostRuntime) -> Result<(), Fail> {
+    let alloc = rt.alloc();
+    let mut source = MemSource::new(Vec::from_slice(alloc, FAULTY)?, Vec::new(alloc));
+    let mut sink = MemSink::new(Vec::new(alloc));
+    let mut files = key_files(alloc, 32, &[0, 3])?;
+    let mut entropy = entropy_of(alloc, 64)?;
+    let mut found = nothing_found(alloc)?;
+    let status = run_alone(
+        alloc,
+        &[],
+        &mut source,
+        &mut sink,
+        &mut files,
+        &mut entropy,
+        &mut found,
+    );
+    assert_eq!(rt; (status, sink.bytes()), (0, FAULTY_REPLIES));
+    assert_eq!(rt; found.entries().len(), FAILED.len());
+    for (entry, (line, what)) in found.entries().iter().zip(FAILED) {
+        assert_eq!(rt;
+            *entry,
+            FoundEntry {
+                line,
+                part: 0,
+                what
+            }
+        );
+    }
+    Ok(())
+}
+
 #[test]
 fn every_word_is_usage(rt: HostRuntime) -> Result<(), Fail> {
     let alloc = rt.alloc();
