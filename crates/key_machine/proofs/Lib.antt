@@ -1,3 +1,4 @@
+pub mod NameLaws
 pub mod SoundLemmas
 pub mod CreateLawsRows
 pub mod CreateLawsGrown

@@ -9,7 +9,7 @@ ghost use Rattle.encryption_roots.specs.ById.{at_id, without_id};
 ghost use Rattle.key_machine.specs.Plain.{Plain, Ciphers, no_keys};
 ghost use Rattle.key_machine.specs.Needs.{makes_root};
 ghost use Rattle.key_machine.specs.Refusals.{refusal_of};
-ghost use Rattle.key_machine.specs.Sound.{Sound};
+ghost use Rattle.key_machine.specs.Sound.{Sound, HasOwnNames};
 ghost use Rattle.key_machine.specs.Step.{step, target, Refused, Made, Done, new_props, ChangesOnlyByBusy, IsAccepted};
 ghost use Rattle.key_machine.specs.Told.{Told};
 
@@ -37,4 +37,10 @@ pub fn a_new_root_has_its_key()
 pub fn an_unload_drops_the_key_alone()
     ensures { (p : Plain) (name : List ℕ) (told : Told) (root : ℕ) → p.mapped ≡ [] → target p (commands.Unload name) ≡ Some root → IsAccepted p (commands.Unload name) told →
         ((step p (commands.Unload name) told).state ≡ record p { loaded = without_id root p.loaded }) × ((step p (commands.Unload name) told).reply ≡ Done) }
+{}
+
+/// Names tell datasets apart: a host that holds nothing has no name twice, and no command gives one that is there.
+pub fn no_name_is_given_twice()
+    ensures nothing { HasOwnNames no_keys }
+    ensures step { (p : Plain) (command : KeyCmd) (told : Told) → HasOwnNames p → HasOwnNames (step p command told).state }
 {}

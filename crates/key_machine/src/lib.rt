@@ -12,5 +12,5 @@ pub use create_laws::creates_keep_soundness;
 pub use key_laws::{a_load_is_accepted_where_the_records_open, loads_and_unloads_keep_soundness};
 pub use laws::{
     a_new_root_has_its_key, a_refusal_changes_nothing, an_unload_drops_the_key_alone,
-    nothing_is_sound,
+    no_name_is_given_twice, nothing_is_sound,
 };
