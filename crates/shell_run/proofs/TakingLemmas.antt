@@ -1,5 +1,5 @@
 -- What is listed of the takings of a line.
-use Rattle.std.proofs.Common.{◌≡◌, ℕ, ◌+◌, ◌≤◌, Bool, true, false, ◌&&◌, ◌||◌, ◌==◌, List, [], ◌∷◌, ◌++◌, length, drop, if◌then◌else◌, Option, Some, None, Result, Ok, Err, IfOk, IfSome, refl, ap, sym, ◌∙◌, subst, append_assoc, arith}
+use Rattle.std.proofs.Common.{◌≡◌, ◌⊎◌, inl, inr, ◌<◌, ℕ, ◌+◌, ◌≤◌, Bool, true, false, ◌&&◌, ◌||◌, ◌==◌, List, [], ◌∷◌, ◌++◌, length, drop, if◌then◌else◌, Option, Some, None, Result, Ok, Err, IfOk, IfSome, refl, ap, sym, ◌∙◌, subst, append_assoc, arith}
 use Rattle.std.specs.List.{AllByRecursion}
 use Rattle.std.proofs.lemmas.List.{append-nil}
 use Rattle.std.proofs.Math.Seq.{drop-append_seam, drop-length}
@@ -18,7 +18,7 @@ use Rattle.shell_run.specs.declared.found.FoundEntry.{FoundEntry}
 use Rattle.shell_run.specs.declared.found.FoundKind.{FoundKind}
 use Rattle.shell_run.specs.declared.found.FoundKind.TheVariants.{OldKey, NewKey, Seed}
 use Rattle.shell_run.specs.Failing.{is_old_key, is_new_key, is_seed, is_listed, Failing, failing, since, failing_since, entry_of, failed_fetch, failed_fill, failed_takings}
-use Rattle.shell_run.specs.Takings.{RoseBy, is_key, count_of, keys_in, seeds_in, Lists, is_fault, is_seed_fault, listed_fetch, listed_fill}
+use Rattle.shell_run.specs.Takings.{RoseBy, is_key, count_of, keys_in, seeds_in, IsBefore, AreInOrder, Lists, is_fault, is_seed_fault, listed_fetch, listed_fill}
 use Rattle.shell_run.specs.Transcript.{material_of, material_at, seed_from, entropy_left, kit_of}
 
 -- ---- lists that grow
@@ -60,8 +60,24 @@ pub all_weaker : (P Q : FoundEntry → Type 0) (xs : List FoundEntry) → ((x : 
 all_weaker P Q [] weaker p = tt
 all_weaker P Q (entry ∷ xs) weaker p = (weaker entry p.0, all_weaker P Q xs weaker p.1)
 
-pub lists_weaker : (here there : ℕ → Type 0) (a b : List FoundEntry) (f0 f1 e0 e1 : ℕ) → ((m : ℕ) → here m → there m) → Lists here a b f0 f1 e0 e1 → Lists there a b f0 f1 e0 e1
-lists_weaker here there a b f0 f1 e0 e1 weaker p = record {
+-- what a part of a run lists, but for the order
+record Part (here : ℕ → Type 0) (old new : List FoundEntry) (files_before files_now entropy_before entropy_now : ℕ) : Type 0 where
+  grew : Grew old new
+  lines : AllByRecursion (λ entry. here entry.line) (since old new)
+  files : files_before ≤ files_now
+  entropy : entropy_before ≤ entropy_now
+  kinds : AllByRecursion (λ entry. is_key entry.what || is_seed entry.what ≡ true) (since old new)
+  keys : RoseBy (keys_in (since old new)) files_before files_now
+  seeds : RoseBy (seeds_in (since old new)) entropy_before entropy_now
+
+part_of : (here : ℕ → Type 0) (a b : List FoundEntry) (f0 f1 e0 e1 : ℕ) → Lists here a b f0 f1 e0 e1 → Part here a b f0 f1 e0 e1
+part_of here a b f0 f1 e0 e1 p = record { grew = p.grew; lines = p.lines; files = p.files; entropy = p.entropy; kinds = p.kinds; keys = p.keys; seeds = p.seeds }
+
+whole_of : (here : ℕ → Type 0) (a b : List FoundEntry) (f0 f1 e0 e1 : ℕ) → Part here a b f0 f1 e0 e1 → AreInOrder (since a b) → Lists here a b f0 f1 e0 e1
+whole_of here a b f0 f1 e0 e1 p order = record { grew = p.grew; order = order; lines = p.lines; files = p.files; entropy = p.entropy; kinds = p.kinds; keys = p.keys; seeds = p.seeds }
+
+part_weaker : (here there : ℕ → Type 0) (a b : List FoundEntry) (f0 f1 e0 e1 : ℕ) → ((m : ℕ) → here m → there m) → Part here a b f0 f1 e0 e1 → Part there a b f0 f1 e0 e1
+part_weaker here there a b f0 f1 e0 e1 weaker p = record {
   grew = p.grew;
   lines = all_weaker (λ entry. here entry.line) (λ entry. there entry.line) (since a b) (λ entry. weaker entry.line) p.lines;
   files = p.files;
@@ -71,8 +87,8 @@ lists_weaker here there a b f0 f1 e0 e1 weaker p = record {
   seeds = p.seeds;
 }
 
-pub lists_more : (here : ℕ → Type 0) (a b c : List FoundEntry) (f0 f1 f2 e0 e1 e2 : ℕ) → Lists here a b f0 f1 e0 e1 → Lists here b c f1 f2 e1 e2 → Lists here a c f0 f2 e0 e2
-lists_more here a b c f0 f1 f2 e0 e1 e2 p q =
+part_more : (here : ℕ → Type 0) (a b c : List FoundEntry) (f0 f1 f2 e0 e1 e2 : ℕ) → Part here a b f0 f1 e0 e1 → Part here b c f1 f2 e1 e2 → Part here a c f0 f2 e0 e2
+part_more here a b c f0 f1 f2 e0 e1 e2 p q =
     let whole : since a c ≡ since a b ++ since b c = since_both a b c p.grew q.grew in
     record {
       grew = grew_both a b c p.grew q.grew;
@@ -85,8 +101,8 @@ lists_more here a b c f0 f1 f2 e0 e1 e2 p q =
       seeds = subst (λ n. RoseBy n e0 e2) (sym (ap seeds_in whole ∙ count_both is_seed (since a b) (since b c))) (Rose-apart e0 e1 e2 (seeds_in (since a b)) (seeds_in (since b c)) p.entropy q.entropy p.seeds q.seeds);
     }
 
-pub lists_nothing : (here : ℕ → Type 0) (found : List FoundEntry) (f0 f1 e0 e1 : ℕ) → f0 ≤ f1 → e0 ≤ e1 → Lists here found found f0 f1 e0 e1
-lists_nothing here found f0 f1 e0 e1 files entropy =
+part_nothing : (here : ℕ → Type 0) (found : List FoundEntry) (f0 f1 e0 e1 : ℕ) → f0 ≤ f1 → e0 ≤ e1 → Part here found found f0 f1 e0 e1
+part_nothing here found f0 f1 e0 e1 files entropy =
     let none : [] ≡ since found found = sym (since_none found) in
     record {
       grew = ([], sym (append-nil found));
@@ -98,8 +114,8 @@ lists_nothing here found f0 f1 e0 e1 files entropy =
       seeds = subst (λ (found : List FoundEntry). RoseBy (seeds_in found) e0 e1) none (omega (arith, entropy));
     }
 
-lists_key : (n : ℕ) (what : FoundKind) → is_key what ≡ true → is_seed what ≡ false → (a b : List FoundEntry) (f0 f1 e : ℕ) → b ≡ a ++ entry_of n what ∷ [] → f0 ≤ f1 → Rose f0 f1 → Lists (λ line. line ≡ n) a b f0 f1 e e
-lists_key n what key no_seed a b f0 f1 e listed later rose =
+part_key : (n : ℕ) (what : FoundKind) → is_key what ≡ true → is_seed what ≡ false → (a b : List FoundEntry) (f0 f1 e : ℕ) → b ≡ a ++ entry_of n what ∷ [] → f0 ≤ f1 → Rose f0 f1 → Part (λ line. line ≡ n) a b f0 f1 e e
+part_key n what key no_seed a b f0 f1 e listed later rose =
     let one : entry_of n what ∷ [] ≡ since a b = sym (since_more a (entry_of n what ∷ []) b listed) in
     record {
       grew = (entry_of n what ∷ [], listed);
@@ -111,8 +127,8 @@ lists_key n what key no_seed a b f0 f1 e listed later rose =
       seeds = subst (λ (found : List FoundEntry). RoseBy (seeds_in found) e e) one (rw no_seed (omega arith));
     }
 
-lists_seed : (n : ℕ) (a b : List FoundEntry) (f e0 e1 : ℕ) → b ≡ a ++ entry_of n Seed ∷ [] → e0 ≤ e1 → Rose e0 e1 → Lists (λ line. line ≡ n) a b f f e0 e1
-lists_seed n a b f e0 e1 listed later rose =
+part_seed : (n : ℕ) (a b : List FoundEntry) (f e0 e1 : ℕ) → b ≡ a ++ entry_of n Seed ∷ [] → e0 ≤ e1 → Rose e0 e1 → Part (λ line. line ≡ n) a b f f e0 e1
+part_seed n a b f e0 e1 listed later rose =
     let one : entry_of n Seed ∷ [] ≡ since a b = sym (since_more a (entry_of n Seed ∷ []) b listed) in
     record {
       grew = (entry_of n Seed ∷ [], listed);
@@ -124,24 +140,45 @@ lists_seed n a b f e0 e1 listed later rose =
       seeds = subst (λ (found : List FoundEntry). RoseBy (seeds_in found) e0 e1) one (omega (arith, rose));
     }
 
-same_lists : (here : ℕ → Type 0) (a b : List FoundEntry) (f0 f1 e0 e1 : ℕ) → b ≡ a ++ [] → f0 ≤ f1 → e0 ≤ e1 → Lists here a b f0 f1 e0 e1
-same_lists here a b f0 f1 e0 e1 listed files entropy = subst (λ (b : List FoundEntry). Lists here a b f0 f1 e0 e1) (sym (listed ∙ append-nil a)) (lists_nothing here a f0 f1 e0 e1 files entropy)
+part_same : (here : ℕ → Type 0) (a b : List FoundEntry) (f0 f1 e0 e1 : ℕ) → b ≡ a ++ [] → f0 ≤ f1 → e0 ≤ e1 → Part here a b f0 f1 e0 e1
+part_same here a b f0 f1 e0 e1 listed files entropy = subst (λ (b : List FoundEntry). Part here a b f0 f1 e0 e1) (sym (listed ∙ append-nil a)) (part_nothing here a f0 f1 e0 e1 files entropy)
 
 -- what one fetch lists, and one fill
-pub lists_fetch : {E : Type 0} (n : ℕ) (what : FoundKind) → is_key what ≡ true → is_seed what ≡ false → (r : Result Fetched E) (a b : List FoundEntry) (f0 f1 e : ℕ) → b ≡ a ++ listed_fetch n what r → f0 ≤ f1
-    → IfOk r (λ fetched. fetched ≡ fetches.Fault → Rose f0 f1) → Lists (λ line. line ≡ n) a b f0 f1 e e
-lists_fetch n what key no_seed (Err stop) a b f0 f1 e listed later rose = same_lists (λ line. line ≡ n) a b f0 f1 e e listed later (omega arith)
-lists_fetch n what key no_seed (Ok fetches.NotAsked) a b f0 f1 e listed later rose = same_lists (λ line. line ≡ n) a b f0 f1 e e listed later (omega arith)
-lists_fetch n what key no_seed (Ok (fetches.Got material)) a b f0 f1 e listed later rose = same_lists (λ line. line ≡ n) a b f0 f1 e e listed later (omega arith)
-lists_fetch n what key no_seed (Ok fetches.Missing) a b f0 f1 e listed later rose = same_lists (λ line. line ≡ n) a b f0 f1 e e listed later (omega arith)
-lists_fetch n what key no_seed (Ok fetches.Fault) a b f0 f1 e listed later rose = lists_key n what key no_seed a b f0 f1 e listed later (rose refl)
+part_fetch : {E : Type 0} (n : ℕ) (what : FoundKind) → is_key what ≡ true → is_seed what ≡ false → (r : Result Fetched E) (a b : List FoundEntry) (f0 f1 e : ℕ) → b ≡ a ++ listed_fetch n what r → f0 ≤ f1
+    → IfOk r (λ fetched. fetched ≡ fetches.Fault → Rose f0 f1) → Part (λ line. line ≡ n) a b f0 f1 e e
+part_fetch n what key no_seed (Err stop) a b f0 f1 e listed later rose = part_same (λ line. line ≡ n) a b f0 f1 e e listed later (omega arith)
+part_fetch n what key no_seed (Ok fetches.NotAsked) a b f0 f1 e listed later rose = part_same (λ line. line ≡ n) a b f0 f1 e e listed later (omega arith)
+part_fetch n what key no_seed (Ok (fetches.Got material)) a b f0 f1 e listed later rose = part_same (λ line. line ≡ n) a b f0 f1 e e listed later (omega arith)
+part_fetch n what key no_seed (Ok fetches.Missing) a b f0 f1 e listed later rose = part_same (λ line. line ≡ n) a b f0 f1 e e listed later (omega arith)
+part_fetch n what key no_seed (Ok fetches.Fault) a b f0 f1 e listed later rose = part_key n what key no_seed a b f0 f1 e listed later (rose refl)
 
-pub lists_fill : {E : Type 0} (n : ℕ) (r : Result SeedGot E) (a b : List FoundEntry) (f e0 e1 : ℕ) → b ≡ a ++ listed_fill n r → e0 ≤ e1
-    → IfOk r (λ seed. seed ≡ seeds.Fault → Rose e0 e1) → Lists (λ line. line ≡ n) a b f f e0 e1
-lists_fill n (Err stop) a b f e0 e1 listed later rose = same_lists (λ line. line ≡ n) a b f f e0 e1 listed (omega arith) later
-lists_fill n (Ok seeds.NotAsked) a b f e0 e1 listed later rose = same_lists (λ line. line ≡ n) a b f f e0 e1 listed (omega arith) later
-lists_fill n (Ok (seeds.Got seed)) a b f e0 e1 listed later rose = same_lists (λ line. line ≡ n) a b f f e0 e1 listed (omega arith) later
-lists_fill n (Ok seeds.Fault) a b f e0 e1 listed later rose = lists_seed n a b f e0 e1 listed later (rose refl)
+part_fill : {E : Type 0} (n : ℕ) (r : Result SeedGot E) (a b : List FoundEntry) (f e0 e1 : ℕ) → b ≡ a ++ listed_fill n r → e0 ≤ e1
+    → IfOk r (λ seed. seed ≡ seeds.Fault → Rose e0 e1) → Part (λ line. line ≡ n) a b f f e0 e1
+part_fill n (Err stop) a b f e0 e1 listed later rose = part_same (λ line. line ≡ n) a b f f e0 e1 listed (omega arith) later
+part_fill n (Ok seeds.NotAsked) a b f e0 e1 listed later rose = part_same (λ line. line ≡ n) a b f f e0 e1 listed (omega arith) later
+part_fill n (Ok (seeds.Got seed)) a b f e0 e1 listed later rose = part_same (λ line. line ≡ n) a b f f e0 e1 listed (omega arith) later
+part_fill n (Ok seeds.Fault) a b f e0 e1 listed later rose = part_seed n a b f e0 e1 listed later (rose refl)
+
+order_both : (first second : ℕ → Type 0) (xs ys : List FoundEntry) → ((m k : ℕ) → first m → second k → m < k) → AllByRecursion (λ entry. first entry.line) xs → AllByRecursion (λ entry. second entry.line) ys
+    → AreInOrder xs → AreInOrder ys → AreInOrder (xs ++ ys)
+order_both first second [] ys apart p q xs_order ys_order = ys_order
+order_both first second (entry ∷ xs) ys apart p q xs_order ys_order = (
+  all_both (IsBefore entry) xs ys xs_order.0 (all_weaker (λ later. second later.line) (IsBefore entry) ys (λ later at_line. inl (apart entry.line later.line p.0 at_line)) q),
+  order_both first second xs ys apart p.1 q xs_order.1 ys_order,
+)
+
+-- takings of earlier lines, and then those of later ones
+pub lists_more : (first second here : ℕ → Type 0) (a b c : List FoundEntry) (f0 f1 f2 e0 e1 e2 : ℕ) → ((m : ℕ) → first m → here m) → ((m : ℕ) → second m → here m) → ((m k : ℕ) → first m → second k → m < k)
+    → Lists first a b f0 f1 e0 e1 → Lists second b c f1 f2 e1 e2 → Lists here a c f0 f2 e0 e2
+lists_more first second here a b c f0 f1 f2 e0 e1 e2 from_first from_second apart p q =
+    whole_of here a c f0 f2 e0 e2
+    (part_more here a b c f0 f1 f2 e0 e1 e2
+    (part_weaker first here a b f0 f1 e0 e1 from_first (part_of first a b f0 f1 e0 e1 p))
+    (part_weaker second here b c f1 f2 e1 e2 from_second (part_of second b c f1 f2 e1 e2 q)))
+    (subst AreInOrder (sym (since_both a b c p.grew q.grew)) (order_both first second (since a b) (since b c) apart p.lines q.lines p.order q.order))
+
+pub lists_weaker : (here there : ℕ → Type 0) (a b : List FoundEntry) (f0 f1 e0 e1 : ℕ) → ((m : ℕ) → here m → there m) → Lists here a b f0 f1 e0 e1 → Lists there a b f0 f1 e0 e1
+lists_weaker here there a b f0 f1 e0 e1 weaker p = whole_of there a b f0 f1 e0 e1 (part_weaker here there a b f0 f1 e0 e1 weaker (part_of here a b f0 f1 e0 e1 p)) p.order
 
 -- where no count rose, nothing is listed
 pub none_listed : (here : ℕ → Type 0) (found : List FoundEntry) (f0 f1 e0 e1 : ℕ) → Lists here [] found f0 f1 e0 e1 → (Rose f0 f1 → ⊥) → (Rose e0 e1 → ⊥) → found ≡ []
@@ -248,6 +285,38 @@ three n a b c d old new seed p q r =
           ∙ ap (λ xs. failing n (one_if (fetch_bit old) n OldKey ++ one_if (fetch_bit new) n NewKey ++ xs)) (fill_lists n seed)
           ∙ failing_bits n (fetch_bit old) (fetch_bit new) (fill_bit seed);
     }
+
+next_rank : (n a b : ℕ) → a < b → (n < n) ⊎ ((n ≡ n) × (a < b))
+next_rank n a b below = inr (refl, below)
+
+order_bits : (n : ℕ) (a b c : Bool) → AreInOrder (one_if a n OldKey ++ one_if b n NewKey ++ one_if c n Seed)
+unfolding one_if
+order_bits n true true true = ((next_rank n 0 1 (omega arith), (next_rank n 0 2 (omega arith), tt)), ((next_rank n 1 2 (omega arith), tt), (tt, tt)))
+order_bits n true true false = ((next_rank n 0 1 (omega arith), tt), (tt, tt))
+order_bits n true false true = ((next_rank n 0 2 (omega arith), tt), (tt, tt))
+order_bits n true false false = (tt, tt)
+order_bits n false true true = ((next_rank n 1 2 (omega arith), tt), (tt, tt))
+order_bits n false true false = (tt, tt)
+order_bits n false false true = (tt, tt)
+order_bits n false false false = tt
+
+-- a kit's takings, whether or not they are told
+pub lists_kit : {E : Type 0} (n : ℕ) (a b c d : List FoundEntry) (old new : Result Fetched E) (seed : Result SeedGot E) (f0 f1 f2 e0 e1 : ℕ) → b ≡ a ++ listed_fetch n OldKey old → c ≡ b ++ listed_fetch n NewKey new
+    → d ≡ c ++ listed_fill n seed → f0 ≤ f1 → f1 ≤ f2 → e0 ≤ e1 → IfOk old (λ fetched. fetched ≡ fetches.Fault → Rose f0 f1) → IfOk new (λ fetched. fetched ≡ fetches.Fault → Rose f1 f2)
+    → IfOk seed (λ got. got ≡ seeds.Fault → Rose e0 e1) → Lists (λ line. line ≡ n) a d f0 f2 e0 e1
+lists_kit n a b c d old new seed f0 f1 f2 e0 e1 p q r files_first files_second entropy rose_first rose_second rose_seed =
+    let here : ℕ → Type 0 = λ line. line ≡ n in
+    let all = three n a b c d old new seed p q r in
+    let bits : since a d ≡ one_if (fetch_bit old) n OldKey ++ one_if (fetch_bit new) n NewKey ++ one_if (fill_bit seed) n Seed =
+    since_more a (listed_fetch n OldKey old ++ listed_fetch n NewKey new ++ listed_fill n seed) d all.all
+    ∙ ap (λ xs. xs ++ listed_fetch n NewKey new ++ listed_fill n seed) (fetch_lists n OldKey old)
+    ∙ ap (λ xs. one_if (fetch_bit old) n OldKey ++ xs ++ listed_fill n seed) (fetch_lists n NewKey new)
+    ∙ ap (λ xs. one_if (fetch_bit old) n OldKey ++ one_if (fetch_bit new) n NewKey ++ xs) (fill_lists n seed) in
+    whole_of here a d f0 f2 e0 e1
+    (part_more here a c d f0 f2 f2 e0 e0 e1
+    (part_more here a b c f0 f1 f2 e0 e0 e0 (part_fetch n OldKey refl refl old a b f0 f1 e0 p files_first rose_first) (part_fetch n NewKey refl refl new b c f1 f2 e0 q files_second rose_second))
+    (part_fill n seed c d f2 e0 e1 r entropy rose_seed))
+    (subst AreInOrder (sym bits) (order_bits n (fetch_bit old) (fetch_bit new) (fill_bit seed)))
 
 no_fault_fetch : (n : ℕ) (what : FoundKind) (told : List (List ℕ × List ℕ)) (place : Option Location) → failed_fetch n what (material_at false told place) ≡ []
 no_fault_fetch n what told None = refl

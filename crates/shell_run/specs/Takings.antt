@@ -1,5 +1,5 @@
 -- What a part of a run takes from key files and entropy, and the failed takings that it lists.
-use Rattle.std.specs.Prelude.{◌≡◌, ℕ, ◌+◌, ◌-◌, ◌^◌, ◌≤◌, min, Bool, true, false, ◌||◌, is_some, if◌then◌else◌, List, [], ◌∷◌, ◌++◌, IfSome, Result, Ok, Err}
+use Rattle.std.specs.Prelude.{◌≡◌, ◌⊎◌, ℕ, ◌+◌, ◌-◌, ◌^◌, ◌<◌, ◌≤◌, min, Bool, true, false, ◌||◌, is_some, if◌then◌else◌, List, [], ◌∷◌, ◌++◌, IfSome, Result, Ok, Err}
 use Rattle.std.specs.List.{AllByRecursion}
 use Rattle.std.specs.declared.option.Option.{Option}
 use Rattle.std.specs.declared.option.Option.TheVariants.{Some}
@@ -19,6 +19,7 @@ use Rattle.key_machine.specs.Step.{Reply, Done, Made, Text, Refused, Reaped, Ski
 use Rattle.key_store.specs.declared.needs.Needs.{Needs}
 use Rattle.shell_run.specs.declared.found.FoundEntry.{FoundEntry}
 use Rattle.shell_run.specs.declared.found.FoundKind.{FoundKind}
+use Rattle.shell_run.specs.declared.found.FoundKind.TheVariants.{OldKey, NewKey, Seed, Streams, Shelf}
 use Rattle.shell_run.specs.declared.command.Shown.{Shown}
 use Rattle.shell_run.specs.declared.command.Shown.TheVariants as shows
 use Rattle.key_machine.specs.Needs.{Wanted}
@@ -43,10 +44,27 @@ keys_in entries = count_of is_key entries
 abbrev pub seeds_in : List FoundEntry → ℕ
 seeds_in entries = count_of is_seed entries
 
--- Failed takings are listed behind those of before, with lines that are here, and no more of them than the counts of faults rose:
--- those of a key with the key files' count, those of a seed with the entropy's.
+-- the place of a taking among those of its line
+abbrev pub rank : FoundKind → ℕ
+rank OldKey = 0
+rank NewKey = 1
+rank Seed = 2
+rank (Streams puts) = 3
+rank (Shelf family draws puts) = 4
+
+abbrev pub IsBefore : FoundEntry → FoundEntry → Type 0
+IsBefore earlier later = (earlier.line < later.line) ⊎ ((earlier.line ≡ later.line) × (rank earlier.what < rank later.what))
+
+-- entries in the order of the takings, none of them twice
+abbrev pub AreInOrder : List FoundEntry → Type 0
+AreInOrder [] = Unit {0}
+AreInOrder (entry ∷ later) = AllByRecursion (IsBefore entry) later × AreInOrder later
+
+-- Failed takings are listed behind those of before and in order, with lines that are here, and no more of them than the counts of
+-- faults rose: those of a key with the key files' count, those of a seed with the entropy's.
 pub record Lists (here : ℕ → Type 0) (old new : List FoundEntry) (files_before files_now entropy_before entropy_now : ℕ) : Type 0 where
   pub grew : (more : List FoundEntry) × (new ≡ old ++ more)
+  pub order : AreInOrder (since old new)
   pub lines : AllByRecursion (λ entry. here entry.line) (since old new)
   pub files : files_before ≤ files_now
   pub entropy : entropy_before ≤ entropy_now

@@ -1,7 +1,6 @@
-use Rattle.std.proofs.Common.{Ok, Err, refl}
-use Rattle.shell_run.specs.declared.found.FoundKind.TheVariants.{OldKey, NewKey}
+use Rattle.std.proofs.Common.{Ok, Err}
 use Rattle.shell_run.specs.Takings.{wants_of}
-use Rattle.shell_run.proofs.TakingLemmas.{takings_told, kit_told, left_told, lists_more, lists_fetch, lists_fill}
+use Rattle.shell_run.proofs.TakingLemmas.{takings_told, kit_told, left_told, lists_kit}
 use Rattle.shell_run.proofs.command.take_kit.Goals as goal
 
 pub returns-clause-kit : goal.returns-clause-kit
@@ -33,8 +32,6 @@ returns-clause-left g c =
 
 pub returns-clause-takings : goal.returns-clause-takings
 returns-clause-takings g c =
-    lists_more _ c.args.found.now c.take_material-2.new.found c.take_seed.new.found _ _ _ _ _ _
-    (lists_more _ c.args.found.now c.take_material.new.found c.take_material-2.new.found _ _ _ _ _ _
-    (lists_fetch c.args.number OldKey refl refl c.take_material.result c.args.found.now c.take_material.new.found _ _ (g.E.Entropy.faults c.args.entropy.now) c.take_material.ensures.listed c.take_material.ensures.later c.take_material.ensures.failed)
-    (lists_fetch c.args.number NewKey refl refl c.take_material-2.result c.take_material.new.found c.take_material-2.new.found _ _ (g.E.Entropy.faults c.args.entropy.now) c.take_material-2.ensures.listed c.take_material-2.ensures.later c.take_material-2.ensures.failed))
-    (lists_fill c.args.number c.take_seed.result c.take_material-2.new.found c.take_seed.new.found (g.F.KeyFiles.faults c.take_material-2.new.files) _ _ c.take_seed.ensures.listed c.take_seed.ensures.later c.take_seed.ensures.failed)
+    lists_kit c.args.number c.args.found.now c.take_material.new.found c.take_material-2.new.found c.take_seed.new.found c.take_material.result c.take_material-2.result c.take_seed.result _ _ _ _ _
+    c.take_material.ensures.listed c.take_material-2.ensures.listed c.take_seed.ensures.listed c.take_material.ensures.later c.take_material-2.ensures.later c.take_seed.ensures.later
+    c.take_material.ensures.failed c.take_material-2.ensures.failed c.take_seed.ensures.failed

@@ -25,9 +25,8 @@ returns-in-Some-clause-told g c =
 
 pub returns-in-Some-clause-takings : goal.returns-in-Some-clause-takings
 returns-in-Some-clause-takings g c =
-    lists_more (λ line. line ≤ 1048576) c.args.found.now c.loop-number.found c.run_line.new.found _ _ _ _ _ _
-    (lists_weaker (λ line. line < c.loop-number.number) (λ line. line ≤ 1048576) c.args.found.now c.loop-number.found _ _ _ _ (λ m below. omega (arith, below)) c.loop-number.invariant.takings)
-    (lists_weaker (λ line. line ≡ c.loop-number.number) (λ line. line ≤ 1048576) c.loop-number.found c.run_line.new.found _ _ _ _ (λ m same. omega (arith, same)) c.run_line.ensures.takings)
+    lists_more (λ line. line < c.loop-number.number) (λ line. line ≡ c.loop-number.number) (λ line. line ≤ 1048576) c.args.found.now c.loop-number.found c.run_line.new.found _ _ _ _ _ _
+    (λ m below. omega (arith, below)) (λ m same. omega (arith, same)) (λ m k below same. omega (arith, below, same)) c.loop-number.invariant.takings c.run_line.ensures.takings
 
 pub loop-number-preserved : goal.loop-number-preserved
 loop-number-preserved g c =
@@ -44,9 +43,8 @@ loop-number-preserved g c =
       source = c.in_default.ensures.source ∙ c.loop-number.invariant.source;
       sink = c.in_default.ensures.sink ∙ c.loop-number.invariant.sink;
       takings =
-          lists_more (λ line. line < c.loop-number.number + 1) c.args.found.now c.loop-number.found c.run_line.new.found _ _ _ _ _ _
-          (lists_weaker (λ line. line < c.loop-number.number) (λ line. line < c.loop-number.number + 1) c.args.found.now c.loop-number.found _ _ _ _ (λ m below. omega (arith, below)) c.loop-number.invariant.takings)
-          (lists_weaker (λ line. line ≡ c.loop-number.number) (λ line. line < c.loop-number.number + 1) c.loop-number.found c.run_line.new.found _ _ _ _ (λ m same. omega (arith, same)) c.run_line.ensures.takings);
+          lists_more (λ line. line < c.loop-number.number) (λ line. line ≡ c.loop-number.number) (λ line. line < c.loop-number.number + 1) c.args.found.now c.loop-number.found c.run_line.new.found _ _ _ _ _ _
+          (λ m below. omega (arith, below)) (λ m same. omega (arith, same)) (λ m k below same. omega (arith, below, same)) c.loop-number.invariant.takings c.run_line.ensures.takings;
     }
 
 pub returns-clause-told : goal.returns-clause-told
