@@ -1,6 +1,2 @@
 pub mod WritingLemmas
 pub mod TakingLemmas
-pub mod CommandLemmas
-pub mod FaultLemmas
-pub mod RunLemmas
-pub mod EndingLemmas

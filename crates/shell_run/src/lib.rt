@@ -5,6 +5,7 @@ mod answer;
 mod command;
 mod ending;
 mod found;
+mod outside;
 mod reply;
 mod run;
 
