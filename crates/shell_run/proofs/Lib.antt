@@ -1,2 +1,7 @@
 pub mod WritingLemmas
 pub mod TakingLemmas
+pub mod KitLemmas
+pub mod CommandLemmas
+pub mod FaultLemmas
+pub mod RunLemmas
+pub mod EndingLemmas

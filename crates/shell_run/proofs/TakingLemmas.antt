@@ -1,5 +1,5 @@
 -- Takings, one after another.
-use Rattle.std.proofs.Common.{◌≡◌, ◌⊎◌, inl, inr, ◌<◌, ℕ, ◌+◌, ◌≤◌, min, ◌-◌, ◌^◌, Bool, true, false, ◌&&◌, ◌||◌, ◌==◌, List, [], ◌∷◌, ◌++◌, length, take, drop, map, if◌then◌else◌, Option, Some, None, IfSome, refl, ap, sym, ◌∙◌, subst, append_assoc, arith}
+use Rattle.std.proofs.Common.{◌≡◌, ◌⊎◌, inl, inr, ◌<◌, ℕ, ◌+◌, ◌≤◌, min, ◌-◌, ◌^◌, Bool, true, false, ◌&&◌, ◌||◌, ◌==◌, List, [], ◌∷◌, ◌++◌, length, take, drop, map, if◌then◌else◌, Option, Some, None, IfSome, refl, ap, sym, ◌∙◌, subst, append_assoc, ⊎_elim, arith}
 use Rattle.std.specs.Option.{option_map}
 use Rattle.std.specs.List.{AllByRecursion}
 use Rattle.std.proofs.lemmas.List.{append-nil}
@@ -213,21 +213,22 @@ takes_both here xs ys a b c order p q =
           (short_more a.fills.made b.fills.made a.fills.failing b.fills.failing a.entropy b.entropy (fills_of xs) (fills_of ys) p.fills.made p.fills.failing p.entropy p.fill_fails q.fill_fails);
     }
 
--- takings of earlier lines, and then those of later ones
-order_apart : (first second : ℕ → Type 0) (xs ys : List Taking) → ((m k : ℕ) → first m → second k → m < k) → AllByRecursion (λ taking. first taking.entry.line) xs → AllByRecursion (λ taking. second taking.entry.line) ys
+-- takings of which each of the first stands before each of the second
+pub order_both : (P Q : Taking → Type 0) (xs ys : List Taking) → ((x y : Taking) → P x → Q y → IsBefore x.entry y.entry) → AllByRecursion P xs → AllByRecursion Q ys
     → AreInOrder (entries_made xs) → AreInOrder (entries_made ys) → AreInOrder (entries_made (xs ++ ys))
-order_apart first second [] ys apart p q xs_order ys_order = ys_order
-order_apart first second (taking ∷ xs) ys apart p q xs_order ys_order = (
+order_both P Q [] ys apart p q xs_order ys_order = ys_order
+order_both P Q (taking ∷ xs) ys apart p q xs_order ys_order = (
   subst (AllByRecursion (IsBefore taking.entry)) (sym (entries_both xs ys))
   (all_both (IsBefore taking.entry) (entries_made xs) (entries_made ys) xs_order.0
-  (all_entries (IsBefore taking.entry) ys (all_weaker (λ later. second later.entry.line) (λ later. IsBefore taking.entry later.entry) ys (λ later at_line. inl (apart taking.entry.line later.entry.line p.0 at_line)) q))),
-  order_apart first second xs ys apart p.1 q xs_order.1 ys_order,
+  (all_entries (IsBefore taking.entry) ys (all_weaker Q (λ later. IsBefore taking.entry later.entry) ys (λ later at_line. apart taking later p.0 at_line) q))),
+  order_both P Q xs ys apart p.1 q xs_order.1 ys_order,
 )
 
 pub takes_more : (first second here : ℕ → Type 0) (xs ys : List Taking) (a b c : Outer) → ((m : ℕ) → first m → here m) → ((m : ℕ) → second m → here m) → ((m k : ℕ) → first m → second k → m < k)
     → Takes first xs a b → Takes second ys b c → Takes here (xs ++ ys) a c
 takes_more first second here xs ys a b c from_first from_second apart p q =
-    takes_both here xs ys a b c (order_apart first second xs ys apart p.lines q.lines p.order q.order)
+    takes_both here xs ys a b c
+    (order_both (λ taking. first taking.entry.line) (λ taking. second taking.entry.line) xs ys (λ x y at_first at_second. inl (apart x.entry.line y.entry.line at_first at_second)) p.lines q.lines p.order q.order)
     (takes_weaker first here xs a b from_first p) (takes_weaker second here ys b c from_second q)
 
 -- ---- one taking
@@ -320,3 +321,72 @@ pub takes_fill : (entry : FoundEntry) → is_fill entry.what ≡ true → (fails
     → Takes (λ m. m ≡ entry.line) (taking_with entry fails ∷ []) old new
 takes_fill entry fill fails old new called files entropy fetches found =
     takes_fill_of entry.line entry.part entry.what (no_fetch_of entry.what fill) fill fails old new called files entropy fetches found
+
+-- ---- a list that agrees with what was taken
+
+same_number_of : (m n : ℕ) → m ≡ n → (m == n) ≡ true
+same_number_of m n same = grind (arith, nat_tests)
+
+other_number : (m n : ℕ) → (m ≡ n → ⊥) → (m == n) ≡ false
+other_number m n apart = grind (arith, nat_tests)
+
+-- whether two entries are of one taking
+abbrev is_same : FoundEntry → FoundEntry → Bool
+is_same entry other = other.line == entry.line && other.part == entry.part && rank other.what == rank entry.what
+
+is_same-self : (entry : FoundEntry) → is_same entry entry ≡ true
+is_same-self entry = rw (same_number_of entry.line entry.line refl, same_number_of entry.part entry.part refl, same_number_of (rank entry.what) (rank entry.what) refl) refl
+
+and_false : (a b c : Bool) → (a ≡ false) ⊎ ((b ≡ false) ⊎ (c ≡ false)) → (a && b && c) ≡ false
+and_false false b c p = refl
+and_false true false c p = refl
+and_false true true false p = refl
+and_false true true true p = absurd (⊎_elim (λ e. cc) (λ q. ⊎_elim (λ e. cc) (λ e. cc) q) p)
+
+is_same-before : (entry other : FoundEntry) → IsBefore entry other → (is_same entry other ≡ false) × (is_same other entry ≡ false)
+is_same-before entry other before = (
+  and_false _ _ _ (⊎_elim (λ line. inl (other_number other.line entry.line (λ e. omega (arith, line, e))))
+  (λ later. ⊎_elim (λ part. inr (inl (other_number other.part entry.part (λ e. omega (arith, part, e)))))
+  (λ kind. inr (inr (other_number (rank other.what) (rank entry.what) (λ e. omega (arith, kind.1, e))))) later.1) before),
+  and_false _ _ _ (⊎_elim (λ line. inl (other_number entry.line other.line (λ e. omega (arith, line, e))))
+  (λ later. ⊎_elim (λ part. inr (inl (other_number entry.part other.part (λ e. omega (arith, part, e)))))
+  (λ kind. inr (inr (other_number (rank entry.what) (rank other.what) (λ e. omega (arith, kind.1, e))))) later.1) before),
+)
+
+-- what stands before all takings has no entry among their failures
+none_before : (entry : FoundEntry) (made : List Taking) → AllByRecursion (IsBefore entry) (entries_made made) → has_entry entry (failures made) ≡ false
+none_before entry [] before = refl
+none_before entry (taking ∷ made) before = by_case (none_before entry made before.1) taking.fails where
+  by_case : has_entry entry (failures made) ≡ false → (b : Bool) → has_entry entry (if b then taking.entry ∷ failures made else failures made) ≡ false
+  by_case rest true = rw ((is_same-before entry taking.entry before.0).0, rest) refl
+  by_case rest false = rest
+
+agrees_behind : (first : FoundEntry) (fails : Bool) (entries : List FoundEntry) (made : List Taking) → AllByRecursion (IsBefore first) (entries_made made) → Agrees entries made → Agrees (if fails then first ∷ entries else entries) made
+agrees_behind first fails entries [] before agrees = tt
+agrees_behind first true entries (taking ∷ made) before agrees = (rw (is_same-before first taking.entry before.0).1 agrees.0, agrees_behind first true entries made before.1 agrees.1)
+agrees_behind first false entries (taking ∷ made) before agrees = agrees
+
+-- the failures of takings agree with them
+pub agrees_failures : (made : List Taking) → AreInOrder (entries_made made) → Agrees (failures made) made
+agrees_failures [] order = tt
+agrees_failures (taking ∷ made) order = (
+  by_case taking.fails,
+  agrees_behind taking.entry taking.fails (failures made) made order.0 (agrees_failures made order.1),
+) where
+  by_case : (b : Bool) → has_entry taking.entry (if b then taking.entry ∷ failures made else failures made) ≡ b
+  by_case true = rw (is_same-self taking.entry) refl
+  by_case false = none_before taking.entry made order.0
+
+-- a line's own entries say of its takings what the whole list says
+own_entry : (n : ℕ) (found : List FoundEntry) (entry : FoundEntry) → entry.line ≡ n → has_entry entry (entries_of n found) ≡ has_entry entry found
+own_entry n [] entry here = refl
+own_entry n (other ∷ found) entry here = by_case (own_entry n found entry here) (other.line == n) refl where
+  by_case : has_entry entry (entries_of n found) ≡ has_entry entry found → (b : Bool) → (other.line == n) ≡ b → has_entry entry (if b then other ∷ entries_of n found else entries_of n found) ≡ has_entry entry (other ∷ found)
+  by_case rest true same = ap (λ found_later. is_same entry other || found_later) rest
+  by_case rest false apart =
+      let line : (other.line == entry.line) ≡ false = rw here apart in
+      rw line rest
+
+pub agrees_own : (n : ℕ) (found : List FoundEntry) (made : List Taking) → AllByRecursion (λ taking. taking.entry.line ≡ n) made → Agrees found made → Agrees (entries_of n found) made
+agrees_own n found [] lines agrees = tt
+agrees_own n found (taking ∷ made) lines agrees = (own_entry n found taking.entry lines.0 ∙ agrees.0, agrees_own n found made lines.1 agrees.1)

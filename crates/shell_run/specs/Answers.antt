@@ -1,5 +1,5 @@
 -- What the calls that carry out a line say of their answers.
-use Rattle.std.specs.Prelude.{◌≡◌, ◌≢◌, ℕ, ◌≤◌, Bool, true, false, is_some, take, drop, List, ◌++◌, [], ◌∷◌, IfSome, OnOk, Result, Ok, Err}
+use Rattle.std.specs.Prelude.{◌≡◌, ◌≢◌, ℕ, ◌≤◌, Bool, true, false, ◌||◌, is_some, take, drop, List, ◌++◌, [], ◌∷◌, IfSome, OnOk, Result, Ok, Err}
 use Rattle.std.specs.declared.alloc.AllocError.{AllocError}
 use Rattle.std.specs.declared.option.Option.{Option}
 use Rattle.std.specs.declared.option.Option.TheVariants.{Some}
@@ -97,7 +97,8 @@ Fetches (Err stop) entry place files made = IsFront made (fetch_at (taking_with 
 abbrev pub Fills : Result SeedGot AllocError → FoundEntry → Bool → Option (List ℕ) → List Taking → Type 0
 Fills (Ok seed) entry wanted entropy made =
     (made ≡ fill_at (taking_with entry (is_seed_fault seed)) wanted)
-    × IfSome entropy (λ left. seed ≡ seed_from (taking_with entry (is_seed_fault seed)) left wanted)
+    × IfSome entropy (λ left. (seed ≡ seed_from (taking_with entry (is_seed_fault seed)) left wanted)
+    × (wanted ≡ true → is_seed_fault seed || is_short left ≡ is_seed_fault seed))
 Fills (Err stop) entry wanted entropy made = made ≡ []
 
 -- a seed that was got is the next 32 of these bytes, and a failed one took none

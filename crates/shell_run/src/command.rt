@@ -1,16 +1,17 @@
 // A key command: what it takes, and what it does.
-ghost use Rattle.std.specs.Prelude.{◌≡◌, List, IfOk};
+ghost use Rattle.std.specs.Prelude.{◌≡◌, List, IfOk, is_some, true};
 ghost use Rattle.edge_io.specs.Faults.{Rose};
-ghost use Rattle.key_machine.specs.Fair.{Suffices};
+ghost use Rattle.key_machine.specs.Fair.{Suffices, WasAsked};
 ghost use Rattle.key_store.specs.Calls.{stepped, state_after};
 ghost use Rattle.shell_run.specs.declared.found.FoundEntry.{FoundEntry};
-ghost use Rattle.shell_run.specs.Answers.{Acts, Agrees, Executes, HasSize, HasWanted, Replies, TakesKit, WhereTold, spot_of, wants_of};
+ghost use Rattle.shell_run.specs.Answers.{Acts, Agrees, Executes, Fetches, HasSize, HasWanted, Replies, TakesKit, WhereTold, spot_of, wants_of};
+ghost use Rattle.shell_run.specs.Takings.{is_fetch};
 ghost use Rattle.shell_run.specs.Transcript.{commanded, told_world};
 
 use crate::found::{FoundEntry, FoundKind};
 use crate::outside::Outside;
 use dataset_tree::{NoMemory, Refusal, Stop};
-use encryption_roots::{Fetched, KeyCmd, LineKit, PropText, SeedGot};
+use encryption_roots::{Fetched, KeyCmd, LineKit, Location, PropText, SeedGot};
 use key_store::{KeyState, Needs};
 use std::alloc::Global;
 
@@ -100,12 +101,12 @@ fn take_kit<W: Outside>(
     ensures holds { W.holds outside.new ≡ W.holds outside.old }
 {
     let old_entry = taking_of(number, FoundKind::OldKey);
-    let old_key = match outside.fetch(alloc, &needs.old_place, old_entry) {
+    let old_key = match fetch_if(alloc, outside, &needs.old_place, old_entry) {
         Ok(old_key) => old_key,
         Err(stop) => return Err(stop),
     };
     let new_entry = taking_of(number, FoundKind::NewKey);
-    let new_key = match outside.fetch(alloc, &needs.new_place, new_entry) {
+    let new_key = match fetch_if(alloc, outside, &needs.new_place, new_entry) {
         Ok(new_key) => new_key,
         Err(stop) => return Err(stop),
     };
@@ -118,6 +119,27 @@ fn take_kit<W: Outside>(
         new_key,
         seed,
     })
+}
+
+/// Fetches the key material at a place, if there is one.
+fn fetch_if<W: Outside>(
+    alloc: Global,
+    outside: &mut W,
+    place: &Option<Location>,
+    entry: FoundEntry,
+) -> Result<Fetched, NoMemory>
+    requires { is_fetch entry.what ≡ true }
+    ensures takes { Acts entry.line (W.told outside.old) (W.told outside.new)
+        (Fetches result entry place.now (W.told outside.old).files) }
+    ensures asked { IfOk result (λ fetched. is_some place.now ≡ true → WasAsked fetched) }
+    ensures fault { result ≡ Ok Fetched.Fault →
+        Rose (W.told outside.old).fetches.faults (W.told outside.new).fetches.faults }
+    ensures holds { W.holds outside.new ≡ W.holds outside.old }
+{
+    match place {
+        None => Ok(Fetched::NotAsked),
+        Some(place) => outside.fetch(alloc, place, entry),
+    }
 }
 
 /// A taking of this line, which is no part of several.

@@ -1,5 +1,5 @@
 // What a run takes from, and how.
-ghost use Rattle.std.specs.Prelude.{◌≡◌, ℕ, List, [], ◌∷◌, true, is_some, IfOk, IfSome, if◌then◌else◌};
+ghost use Rattle.std.specs.Prelude.{◌≡◌, ℕ, List, [], ◌∷◌, true, Some, IfOk, IfSome, if◌then◌else◌};
 ghost use Rattle.edge_io.specs.Counts.{next_listed};
 ghost use Rattle.edge_io.specs.Entropy.{fill_fails};
 ghost use Rattle.edge_io.specs.Faults.{Rose};
@@ -24,11 +24,11 @@ pub(crate) trait Outside {
     /// The references that it holds, by their names: it goes on holding the same.
     ghost holds: { Self → List ℕ };
 
-    /// Fetches the key material at a place, if there is one, as this taking. Until prompts are built, one gives no bytes.
-    fn fetch(&mut self, alloc: Global, place: &Option<Location>, entry: FoundEntry) -> Result<Fetched, NoMemory>
+    /// Fetches the key material at a place, as this taking. Until prompts are built, one gives no bytes.
+    fn fetch(&mut self, alloc: Global, place: &Location, entry: FoundEntry) -> Result<Fetched, NoMemory>
         requires { is_fetch entry.what ≡ true }
-        ensures takes { Acts entry.line (told self.old) (told self.new) (Fetches result entry place.now (told self.old).files) }
-        ensures asked { IfOk result (λ fetched. is_some place.now ≡ true → WasAsked fetched) }
+        ensures takes { Acts entry.line (told self.old) (told self.new) (Fetches result entry (Some place.now) (told self.old).files) }
+        ensures asked { IfOk result (λ fetched. WasAsked fetched) }
         ensures fault { result ≡ Ok Fetched.Fault → Rose (told self.old).fetches.faults (told self.new).fetches.faults }
         ensures holds { holds self.new ≡ holds self.old };
 
@@ -60,14 +60,13 @@ impl<F: KeyFiles, E: Entropy> Outside for Lent<'_, F, E> {
 
     ghost holds = { λ lent. lent.files.ghost_name ∷ lent.entropy.ghost_name ∷ lent.found.ghost_name ∷ [] };
 
-    fn fetch(&mut self, alloc: Global, place: &Option<Location>, entry: FoundEntry) -> Result<Fetched, NoMemory> {
+    fn fetch(&mut self, alloc: Global, place: &Location, entry: FoundEntry) -> Result<Fetched, NoMemory> {
         match place {
-            None => Ok(Fetched::NotAsked),
-            Some(Location::Prompt) => Ok(Fetched::Got(Material::new(Vec::new(alloc)))),
-            Some(Location::File(path)) => {
+            Location::Prompt => Ok(Fetched::Got(Material::new(Vec::new(alloc)))),
+            Location::File(path) => {
                 self.found.push(entry)?;
                 let fetched = fetch_file(alloc, self.files, path);
-                self.found.settle(matches!(fetched, Ok(Fetched::Fault)));
+                self.found.settle(has_failed(&fetched));
                 fetched
             }
         }
@@ -79,7 +78,7 @@ impl<F: KeyFiles, E: Entropy> Outside for Lent<'_, F, E> {
         }
         self.found.push(entry)?;
         let seed = fill_seed(self.entropy);
-        self.found.settle(matches!(seed, SeedGot::Fault));
+        self.found.settle(is_seed_fault(&seed));
         Ok(seed)
     }
 }
@@ -117,4 +116,16 @@ fn fill_seed<E: Entropy>(entropy: &mut E) -> SeedGot
         Ok(()) => SeedGot::Got(seed),
         Err(_) => SeedGot::Fault,
     }
+}
+
+fn has_failed(fetched: &Result<Fetched, NoMemory>) -> bool
+    ensures { result ≡ fetch_fails fetched.now }
+{
+    matches!(fetched, Ok(Fetched::Fault))
+}
+
+fn is_seed_fault(seed: &SeedGot) -> bool
+    ensures { result ≡ is_seed_fault seed.now }
+{
+    matches!(seed, SeedGot::Fault)
 }

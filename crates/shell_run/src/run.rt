@@ -70,7 +70,7 @@ pub fn run_alone<S: Source, O: Sink, F: KeyFiles, E: Entropy>(
             fetches = record { made = F.calls files.old; failing = F.failing files.old; faults = F.faults files.old };
             entropy = E.left entropy.old;
             fills = record { made = E.calls entropy.old; failing = E.failing entropy.old; faults = E.faults entropy.old };
-            found = [];
+            found = found.old;
         } in
         let after : Outer = record {
             files = F.files files.new;
