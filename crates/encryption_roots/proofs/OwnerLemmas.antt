@@ -79,7 +79,7 @@ owner_from_agrees roots id (Some row) f g agree =
     ap (λ further. owner_by_kind row.kind (cond (is_some (props_of id roots)) (Some id) further)) (agree row refl)
 
 -- as many steps as rows that the walk can meet lead to the owner, and more lead there too
-enough_steps : (rows : List Row) (roots : List (ℕ × Props)) → Falls rows → (steps more id : ℕ) → up_to id rows ≤ steps → up_to id rows ≤ more
+pub enough_steps : (rows : List Row) (roots : List (ℕ × Props)) → Falls rows → (steps more id : ℕ) → up_to id rows ≤ steps → up_to id rows ≤ more
     → owner_within steps rows roots id ≡ owner_within more rows roots id
 enough_steps rows roots falls zero zero id few many = refl
 enough_steps rows roots falls zero (suc more) id few many = rw (none_left id rows (omega arith)) refl
@@ -104,7 +104,7 @@ family_from_agrees : (id : ℕ) (found : Option Row) (f g : ℕ → ℕ)
 family_from_agrees id None f g agree = refl
 family_from_agrees id (Some row) f g agree = ap (λ further. cond (row.origin == 0) id further) (agree row refl)
 
-enough_origins : (rows : List Row) → Falls rows → (steps more id : ℕ) → up_to id rows ≤ steps → up_to id rows ≤ more → family_within steps rows id ≡ family_within more rows id
+pub enough_origins : (rows : List Row) → Falls rows → (steps more id : ℕ) → up_to id rows ≤ steps → up_to id rows ≤ more → family_within steps rows id ≡ family_within more rows id
 enough_origins rows falls zero zero id few many = refl
 enough_origins rows falls zero (suc more) id few many = rw (none_left id rows (omega arith)) refl
 enough_origins rows falls (suc steps) zero id few many = rw (none_left id rows (omega arith)) refl
