@@ -65,7 +65,3 @@ pub record Sound (c : Ciphers) (p : Plain) : Type 0 where
   pub keys : SoundKeys c p
   pub users : SoundUsers p
   pub slots : SoundSlots p
-
--- no two datasets have one name
-abbrev pub HasOwnNames : Plain → Type 0
-HasOwnNames p = AllPairs (λ earlier later. earlier.name ≢ later.name) p.tree.rows

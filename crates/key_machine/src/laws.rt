@@ -3,12 +3,13 @@ ghost use Rattle.std.specs.Prelude.{◌≡◌, ◌≢◌, ◌⊎◌, ℕ, ◌≤
 ghost use Rattle.std.specs.List.{AllPairs, count_by};
 ghost use Rattle.dataset_tree.specs.declared.refusal.Refusal.{Refusal};
 ghost use Rattle.dataset_tree.specs.declared.refusal.Refusal.TheVariants.{Busy};
+ghost use Rattle.dataset_tree.specs.Tree.{IsTree};
 ghost use Rattle.encryption_roots.specs.declared.command.KeyCmd.{KeyCmd};
 ghost use Rattle.encryption_roots.specs.declared.kit.LineKit.{LineKit};
 ghost use Rattle.encryption_roots.specs.ById.{IsRisingById};
 ghost use Rattle.key_machine.specs.Plain.{Plain, Ciphers, no_keys};
 ghost use Rattle.key_machine.specs.Reply.{Refused};
-ghost use Rattle.key_machine.specs.Sound.{Sound, HasOwnNames};
+ghost use Rattle.key_machine.specs.Sound.{Sound};
 ghost use Rattle.key_machine.specs.Step.{told, target, key_step};
 ghost use Rattle.key_machine.specs.Told.{Told, no_key};
 ghost use Rattle.key_machine.specs.Unload.{closed_below};
@@ -47,10 +48,9 @@ pub fn a_refusal_changes_nothing()
             × ((key_step p command told).state ≡ record p { mapped = closed_below p root dataset })) }
 {}
 
-/// Names tell datasets apart: a host that holds nothing has no name twice, and no command gives one that is there.
-pub fn no_name_is_given_twice()
-    ensures nothing { HasOwnNames no_keys }
-    ensures step { (p : Plain) (command : KeyCmd) (told : Told) → HasOwnNames p → HasOwnNames (key_step p command told).state }
+/// Each command keeps a tree one, whatever is told: no name is given twice, and a dataset's parent is the one that its name tells.
+pub fn each_step_keeps_the_tree()
+    ensures { (p : Plain) (command : KeyCmd) (told : Told) → IsTree p.tree → IsTree (key_step p command told).state.tree }
 {}
 
 /// In a sound state no dataset is mounted twice, and a rider holds at most 65535 times.

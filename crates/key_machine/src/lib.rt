@@ -15,8 +15,8 @@ pub use key_laws::{
     an_unload_drops_the_key_alone, an_unload_is_busy_at_the_first_mapping_in_use,
 };
 pub use laws::{
-    a_fault_tells_nothing_else, a_refusal_changes_nothing, fair_steps_keep_soundness,
-    mounts_and_holds_are_bounded, no_name_is_given_twice, nothing_is_sound,
+    a_fault_tells_nothing_else, a_refusal_changes_nothing, each_step_keeps_the_tree,
+    fair_steps_keep_soundness, mounts_and_holds_are_bounded, nothing_is_sound,
     what_a_kit_tells_is_fair,
 };
 pub use values::{
