@@ -1,5 +1,5 @@
 -- What a kit tells is fair, where the ciphers are sound; and fair steps keep a state sound.
-use Rattle.std.proofs.Common.{◌≡◌, ⊎_elim, inl, inr, ℕ, ◌+◌, ◌*◌, Bool, true, false, List, [], ◌∷◌, map, Option, Some, None, Result, Ok, Err, is_some, option_map, refl, ap, sym, ◌∙◌, subst, arith, ◌⊎◌, ◌≤◌}
+use Rattle.std.proofs.Common.{◌≡◌, ⊎_elim, inl, inr, ℕ, ◌+◌, Bool, true, false, List, [], ◌∷◌, map, Option, Some, None, Result, Ok, Err, is_some, option_map, refl, ap, sym, ◌∙◌, subst, arith, ◌⊎◌, ◌≤◌}
 use Rattle.std.proofs.lemmas.List.{length-take-le}
 use Rattle.std.proofs.lemmas.List.Elements.{All-nil, All-cons}
 use Rattle.std.specs.Prelude.{if◌then◌else◌}
@@ -23,11 +23,11 @@ use Rattle.key_machine.specs.Create.{makes_root, makes_encrypted, parent_row, pa
 use Rattle.key_machine.specs.Get.{get_done}
 use Rattle.key_machine.specs.Load.{load_done, load_material, told_load, told_load_of, told_load_with, loaded_key}
 use Rattle.key_machine.specs.Refusals.{first_refusal, not_built}
-use Rattle.key_machine.specs.Reply.{Stepped, Done, Made, Refused, refused}
+use Rattle.key_machine.specs.Reply.{Stepped, Done, Refused}
 use Rattle.key_machine.specs.Sound.{Sound}
-use Rattle.key_machine.specs.Step.{key_step, target, told, refusal_of, material_refusal, carried_out, in_use, IsAccepted}
+use Rattle.key_machine.specs.Step.{key_step, target, told, refusal_of, in_use, IsAccepted}
 use Rattle.key_machine.specs.Told.{Told, no_key, nothing_told, key_of, seed_of, vector_place, master_place, hmac_place, guid_place}
-use Rattle.key_machine.specs.Unload.{InUse, first_in_use, unload_done, unloaded}
+use Rattle.key_machine.specs.Unload.{InUse, unload_done, unloaded}
 use Rattle.key_machine.specs.Fair.{IsMaster, AreSound, IsFair, IsGenuine, AllOpen, OpensAll}
 use Rattle.key_machine.proofs.SoundLemmas.{done, by_step, accepted_step, refused_step, refused_by_material, step_sound}
 use Rattle.key_machine.proofs.CreateLawsStep.{IsFree, free, created_sound}
@@ -53,7 +53,7 @@ module _ (c : Ciphers) (are : AreSound c) where
   seeded_opens suite seed key =
       ap (λ m. is_some m) (are.opened (seeded_master c suite seed) key (c.seed_bytes seed (vector_place 0) 3) (seeded suite seed) (are.words seed (vector_place 0) 3))
 
--- ---- a create
+  -- ---- a create
 
   module _ (p : Plain) (name : List ℕ) (opts : Options) (kit : LineKit) where
     abbrev own : List ℕ

@@ -15,12 +15,12 @@ use Rattle.encryption_roots.specs.declared.command.KeyCmd.{KeyCmd}
 use Rattle.encryption_roots.specs.declared.command.KeyCmd.TheVariants as commands
 use Rattle.encryption_roots.specs.ById.{at_id, with_id}
 use Rattle.encryption_roots.proofs.ByIdLemmas.{IsRisingById-with_id, at_id-with_id, at_id-with_id_other}
-use Rattle.key_machine.specs.Plain.{Plain, Ciphers, Stored, owner_of, is_root, has_key_of, has_key, is_same, owned}
+use Rattle.key_machine.specs.Plain.{Plain, Ciphers, Stored, owner_of, is_root, has_key_of, is_same, owned}
 use Rattle.key_machine.specs.Load.{first_wrong, told_load, told_load_of, told_load_with, loaded_key, load_done}
 use Rattle.key_machine.specs.Refusals.{first_of, first_refusal, root_cases, is_loaded_row}
-use Rattle.key_machine.specs.Reply.{Stepped, Done, Refused, refused, unless_refused}
+use Rattle.key_machine.specs.Reply.{Stepped, Done, unless_refused}
 use Rattle.key_machine.specs.Sound.{Sound, OpensAt}
-use Rattle.key_machine.specs.Step.{key_step, refusal_of, material_refusal, target, told, carried_out, in_use, IsAccepted}
+use Rattle.key_machine.specs.Step.{key_step, refusal_of, material_refusal, target, told}
 use Rattle.key_machine.specs.Told.{Told, key_of}
 use Rattle.key_machine.specs.Fair.{OpensAll}
 use Rattle.key_machine.proofs.SoundLemmas.{done}

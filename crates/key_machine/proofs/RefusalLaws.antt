@@ -1,5 +1,5 @@
 -- A refused command changes nothing, but for a busy unload.
-use Rattle.std.proofs.Common.{◌≡◌, ◌⊎◌, inl, inr, ℕ, Bool, Option, Some, None, refl, ap, sym, ◌∙◌}
+use Rattle.std.proofs.Common.{◌≡◌, ◌⊎◌, inl, inr, ℕ, Bool, Option, Some, None, refl, sym}
 use Rattle.std.specs.Option.{option_and_then}
 use Rattle.dataset_tree.specs.declared.refusal.Refusal.{Refusal}
 use Rattle.dataset_tree.specs.declared.refusal.Refusal.TheVariants.{Busy}
@@ -12,7 +12,7 @@ use Rattle.key_machine.specs.Busy.{IsFirstInUse}
 use Rattle.key_machine.specs.Get.{get_done}
 use Rattle.key_machine.specs.Load.{load_done}
 use Rattle.key_machine.specs.Reply.{Stepped, Refused}
-use Rattle.key_machine.specs.Step.{key_step, target, in_use}
+use Rattle.key_machine.specs.Step.{key_step, target}
 use Rattle.key_machine.specs.Told.{Told}
 use Rattle.key_machine.specs.Unload.{InUse, first_in_use, closed_below, unloaded, unload_done}
 use Rattle.key_machine.proofs.SoundLemmas.{done, by_step}

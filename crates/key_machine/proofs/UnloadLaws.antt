@@ -3,10 +3,10 @@ use Rattle.std.proofs.Common.{◌≡◌, ◌≢◌, ◌↔◌, ⊎_elim, ℕ, su
 use Rattle.std.proofs.lemmas.Bool.{eq-eqb, eqb-true, and_from, cases_Bool, cases_eq}
 use Rattle.std.proofs.lemmas.Bool.Decides.{nat_tests}
 use Rattle.std.proofs.lemmas.List.{get_or-map, length-map}
-use Rattle.std.proofs.lemmas.List.Elements.{All-nil, All-cons, All-head, All-tail, All-filter, All-weaker}
+use Rattle.std.proofs.lemmas.List.Elements.{All-nil, All-cons, All-head, All-tail, All-filter}
 use Rattle.std.proofs.lemmas.List.Folds.{list_any_at}
 use Rattle.std.proofs.lemmas.List.Kept.{AllPairs-filter}
-use Rattle.std.specs.List.{All, AllPairs, Contains, filter, find, count_by}
+use Rattle.std.specs.List.{All, Contains, filter, find, count_by}
 use Rattle.std.specs.Option.{option_and_then}
 use Rattle.dataset_tree.specs.declared.refusal.Refusal.{Refusal}
 use Rattle.dataset_tree.specs.declared.refusal.Refusal.TheVariants.{NoSuch, Busy}
@@ -15,15 +15,15 @@ use Rattle.encryption_roots.specs.ById.{IsRisingById, at_id, without_id}
 use Rattle.encryption_roots.proofs.ByIdLemmas.{IsRisingById-without_id, at_id-without_id, at_id-without_id_other}
 use Rattle.key_machine.specs.Plain.{Plain, Ciphers, Hold, owner_of, is_root, has_key_of, has_key, is_same}
 use Rattle.key_machine.specs.Users.{generation_of, is_mounted, users_of, is_used}
-use Rattle.key_machine.specs.Sound.{Sound, SoundKeys, IsEncrypted, OpensAt}
+use Rattle.key_machine.specs.Sound.{Sound, SoundKeys, IsEncrypted}
 use Rattle.key_machine.specs.Refusals.{first_of}
-use Rattle.key_machine.specs.Reply.{Stepped, Done, Refused}
+use Rattle.key_machine.specs.Reply.{Done, Refused}
 use Rattle.key_machine.specs.Step.{key_step, refusal_of, target, IsAccepted}
 use Rattle.key_machine.specs.Told.{Told}
 use Rattle.key_machine.specs.Unload.{InUse, is_owned, first_in_use, closed, closed_below, unloaded, unload_done, unload_cases}
 use Rattle.key_machine.specs.Busy.{IsFirstInUse, AllIdle}
 use Rattle.key_machine.proofs.SoundLemmas.{by_step, accepted_step}
-use Rattle.key_machine.proofs.KeyLists.{All-kept, contains_kept, at_id-filter, at_id-dropped, each_found, at_id_holds, at_id_is, count_at}
+use Rattle.key_machine.proofs.KeyLists.{All-kept, contains_kept, at_id-filter, at_id-dropped, at_id_holds, at_id_is, count_at}
 
 -- ---- users
 
@@ -311,9 +311,10 @@ busy_found : (p : Plain) (root dataset count : ℕ) (found : Option InUse) → (
 busy_found p root dataset count None reply = absurd (cc)
 busy_found p root dataset count (Some busy) reply =
     let id : busy.dataset ≡ dataset = cc in
-    let number : busy.count ≡ count = cc in
-    (ap (λ d. Some (let b : InUse = record { dataset = d; count = busy.count } in b)) id ∙ ap (λ n. Some (let b : InUse = record { dataset = dataset; count = n } in b)) number,
-      ap (λ d. record p { mapped = closed_below p root d }) id)
+    let number : busy.count ≡ count = cc in (
+      ap (λ d. Some (let b : InUse = record { dataset = d; count = busy.count } in b)) id ∙ ap (λ n. Some (let b : InUse = record { dataset = dataset; count = n } in b)) number,
+      ap (λ d. record p { mapped = closed_below p root d }) id,
+    )
 
 unloaded_done : (p : Plain) (root : ℕ) (found : Option InUse) → ((unloaded p root found).reply ≡ Done) ↔ (found ≡ None)
 unloaded_done p root None = (λ done. refl, λ none. refl)

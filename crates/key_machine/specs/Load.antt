@@ -14,7 +14,7 @@ use Rattle.encryption_roots.specs.ById.{at_id, with_id}
 use Rattle.key_machine.specs.Plain.{Plain, Stored, Ciphers, owned}
 use Rattle.key_machine.specs.Refusals.{root_cases, is_loaded_row}
 use Rattle.key_machine.specs.Reply.{Stepped, Done, refused}
-use Rattle.key_machine.specs.Told.{Wanted, Told, nothing_told, fault_told, no_key, key_of}
+use Rattle.key_machine.specs.Told.{Wanted, Told, nothing_told, fault_told, key_of}
 
 -- ---- refusals
 

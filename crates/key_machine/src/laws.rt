@@ -45,7 +45,7 @@ pub fn a_refusal_changes_nothing()
     ensures { (p : Plain) (command : KeyCmd) (told : Told) (why : Refusal) → IsRisingById p.mapped → (key_step p command told).reply ≡ Refused why →
         ((key_step p command told).state ≡ p)
         ⊎ ((root dataset count : ℕ) × (target p command ≡ Some root) × (why ≡ Busy dataset count) × IsFirstInUse p root dataset count
-            × ((key_step p command told).state ≡ record p { mapped = closed_below p root dataset })) }
+        × ((key_step p command told).state ≡ record p { mapped = closed_below p root dataset })) }
 {}
 
 /// Each command keeps a tree one, whatever is told: no name is given twice, and a dataset's parent is the one that its name tells.

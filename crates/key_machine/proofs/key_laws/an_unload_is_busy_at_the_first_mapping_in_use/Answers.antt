@@ -1,4 +1,4 @@
-use Rattle.std.proofs.Common.{◌≡◌, ℕ, List, Some, cond, ◌&&◌, nat_lt, None, refl, ap, sym, ◌∙◌, subst}
+use Rattle.std.proofs.Common.{ℕ, cond, ◌&&◌, nat_lt, None, ap, ◌∙◌, subst}
 use Rattle.encryption_roots.specs.ById.{at_id}
 use Rattle.key_machine.specs.Plain.{owner_of, is_same}
 use Rattle.key_machine.specs.Busy.{IsFirstInUse}

@@ -1,4 +1,4 @@
-use Rattle.std.proofs.Common.{◌≤◌, arith, lit≤}
+use Rattle.std.proofs.Common.{◌≤◌, arith}
 use Rattle.key_machine.proofs.HoldLaws.{few_holds, not_more_holds}
 use Rattle.key_machine.proofs.values.holds_of_a_rider.Goals as goal
 
