@@ -1,10 +1,8 @@
 -- What a kit tells is fair, where the ciphers are sound; and fair steps keep a state sound.
-use Rattle.std.proofs.Common.{◌≡◌, ⊎_elim, inl, inr, ℕ, ◌+◌, Bool, true, false, List, [], ◌∷◌, map, Option, Some, None, Result, Ok, Err, is_some, option_map, refl, ap, sym, ◌∙◌, subst, arith, ◌⊎◌, ◌≤◌}
-use Rattle.std.proofs.lemmas.List.{length-take-le}
+use Rattle.std.proofs.Common.{◌≡◌, ⊎_elim, inl, inr, ℕ, ◌+◌, Bool, true, false, List, [], ◌∷◌, map, Option, Some, None, Result, Ok, Err, is_some, option_map, refl, ap, sym, ◌∙◌, subst, ◌⊎◌}
 use Rattle.std.proofs.lemmas.List.Elements.{All-nil, All-cons}
 use Rattle.std.specs.Prelude.{if◌then◌else◌}
 use Rattle.dataset_tree.specs.declared.kinds.Suite.{Suite}
-use Rattle.dataset_tree.specs.declared.kinds.Suite.TheVariants.{Aes128Gcm, Aes192Gcm, Aes256Gcm}
 use Rattle.dataset_tree.specs.declared.refusal.Refusal.{Refusal}
 use Rattle.dataset_tree.specs.declared.refusal.Refusal.TheVariants.{WrongKey}
 use Rattle.dataset_tree.specs.Suite.{suite_key_len}
@@ -18,15 +16,16 @@ use Rattle.encryption_roots.specs.declared.command.KeyCmd.{KeyCmd}
 use Rattle.encryption_roots.specs.declared.command.KeyCmd.TheVariants as commands
 use Rattle.encryption_roots.specs.declared.kit.LineKit.{LineKit}
 use Rattle.encryption_roots.specs.ById.{at_id}
+use Rattle.salt_rotation.specs.Places.{master_place, hmac_place, guid_place, vector_place}
 use Rattle.key_machine.specs.Plain.{Plain, Ciphers}
-use Rattle.key_machine.specs.Create.{makes_root, makes_encrypted, parent_row, parent_key, create_key, told_encrypted, new_suite, seeded_master, seeded_record}
+use Rattle.key_machine.specs.Create.{makes_root, makes_encrypted, parent_row, parent_key, create_key, told_encrypted, new_format, new_iters, new_salt, new_suite, seeded_master, seeded_record}
 use Rattle.key_machine.specs.Get.{get_done}
 use Rattle.key_machine.specs.Load.{load_done, load_material, told_load, told_load_of, told_load_with, loaded_key}
 use Rattle.key_machine.specs.Refusals.{first_refusal, not_built}
 use Rattle.key_machine.specs.Reply.{Stepped, Done, Refused}
 use Rattle.key_machine.specs.Sound.{Sound}
 use Rattle.key_machine.specs.Step.{key_step, target, told, refusal_of, in_use, IsAccepted}
-use Rattle.key_machine.specs.Told.{Told, no_key, nothing_told, key_of, seed_of, vector_place, master_place, hmac_place, guid_place}
+use Rattle.key_machine.specs.Told.{Told, no_key, nothing_told, key_of, seed_of}
 use Rattle.key_machine.specs.Unload.{InUse, unload_done, unloaded}
 use Rattle.key_machine.specs.Fair.{IsMaster, AreSound, IsFair, IsGenuine, AllOpen, OpensAll}
 use Rattle.key_machine.proofs.SoundLemmas.{done, by_step, accepted_step, refused_step, refused_by_material, step_sound}
@@ -36,22 +35,17 @@ use Rattle.key_machine.proofs.UnloadLaws.{unload_sound}
 
 -- ---- a seeded record opens
 
-key_len-le : (suite : Suite) → suite_key_len suite ≤ 32
-key_len-le Aes128Gcm = omega arith
-key_len-le Aes192Gcm = omega arith
-key_len-le Aes256Gcm = omega arith
-
 module _ (c : Ciphers) (are : AreSound c) where
   seeded : (suite : Suite) (seed : List ℕ) → IsMaster (seeded_master c suite seed)
   seeded suite seed = record {
     guid = are.numbers seed guid_place;
-    master = length-take-le (suite_key_len suite) (c.seed_bytes seed master_place 8) (omega (arith, are.words seed master_place 8, key_len-le suite));
-    hmac = are.words seed hmac_place 16;
+    master = are.words seed master_place (suite_key_len suite);
+    hmac = are.words seed hmac_place 64;
   }
 
   seeded_opens : (suite : Suite) (seed key : List ℕ) → is_some (c.opens (seeded_record c suite seed key) key) ≡ true
   seeded_opens suite seed key =
-      ap (λ m. is_some m) (are.opened (seeded_master c suite seed) key (c.seed_bytes seed (vector_place 0) 3) (seeded suite seed) (are.words seed (vector_place 0) 3))
+      ap (λ m. is_some m) (are.opened (seeded_master c suite seed) key (c.seed_bytes seed (vector_place 0) 12) (seeded suite seed) (are.words seed (vector_place 0) 12))
 
   -- ---- a create
 
@@ -85,7 +79,7 @@ module _ (c : Ciphers) (are : AreSound c) where
         → IsFair c p (commands.Create name opts) (told_encrypted c p name opts key seed)
     encrypted_fair (Err why) seed had made accepted = by_fault (told_encrypted c p name opts (Err why) seed) why refl accepted
     encrypted_fair (Ok key) (Err why) had made accepted = by_fault (told_encrypted c p name opts (Ok key) (Err why)) why refl accepted
-    encrypted_fair (Ok key) (Ok seed) had made accepted = inr (written (makes_encrypted p name opts) (makes_root opts) _ key seed refl refl had made)
+    encrypted_fair (Ok key) (Ok seed) had made accepted = inr (written (makes_encrypted p name opts) (makes_root opts) (key_of c (new_format opts) (new_iters opts) (new_salt c opts (seed_of kit.seed)) kit.new_key) key seed refl refl had made)
 
     by_encrypted : (encrypted : Bool) → makes_encrypted p name opts ≡ encrypted → refusal_of p (commands.Create name opts) ≡ None
         → IsFair c p (commands.Create name opts) (if encrypted then told_encrypted c p name opts (create_key c p name opts kit) (seed_of kit.seed) else nothing_told)

@@ -1,5 +1,5 @@
 -- `create`: a dataset, which is a root where the options have a key format, and inherits its parent's key below an encrypted parent.
-use Rattle.std.specs.Prelude.{ℕ, Bool, true, false, not, ◌&&◌, ◌||◌, ◌+◌, nat_lt, nat_le, List, [], ◌∷◌, length, take, slice_get, is_some, is_none, unwrap_or, if◌then◌else◌, Result, Ok, Err}
+use Rattle.std.specs.Prelude.{ℕ, Bool, true, false, not, ◌&&◌, ◌||◌, ◌+◌, nat_lt, nat_le, List, [], ◌∷◌, length, slice_get, is_some, is_none, unwrap_or, if◌then◌else◌, Result, Ok, Err}
 use Rattle.std.specs.declared.option.Option.{Option}
 use Rattle.std.specs.declared.option.Option.TheVariants.{Some, None}
 use Rattle.std.specs.Option.{option_and_then}
@@ -21,10 +21,11 @@ use Rattle.encryption_roots.specs.declared.props.Options.{Options}
 use Rattle.encryption_roots.specs.declared.props.Props.{Props}
 use Rattle.encryption_roots.specs.ById.{at_id, with_id}
 use Rattle.encryption_roots.specs.Owners.{family}
+use Rattle.salt_rotation.specs.Places.{master_place, hmac_place, guid_place, salt_place, vector_place}
 use Rattle.key_machine.specs.Limits.{max_datasets, max_id, max_families, min_iterations, max_iterations, default_iterations, default_record_size}
 use Rattle.key_machine.specs.Plain.{Plain, Stored, Master, Ciphers, owner_of, has_key_of, is_encrypted_row}
 use Rattle.key_machine.specs.Reply.{Stepped, Made}
-use Rattle.key_machine.specs.Told.{Wanted, Told, no_key, nothing_told, fault_told, key_of, seed_of, master_place, hmac_place, guid_place, salt_place, vector_place}
+use Rattle.key_machine.specs.Told.{Wanted, Told, no_key, nothing_told, fault_told, key_of, seed_of}
 
 -- ---- the new dataset
 
@@ -119,22 +120,22 @@ new_iters opts = if is_passphrase opts.format then unwrap_or opts.iters default_
 
 -- a salt for a passphrase, where a seed was had
 abbrev pub new_salt : Ciphers → Options → Result (List ℕ) Refusal → ℕ
-new_salt c opts (Ok seed) = if is_passphrase opts.format then little_endian_value (c.seed_bytes seed salt_place 2) else 0
+new_salt c opts (Ok seed) = if is_passphrase opts.format then little_endian_value (c.seed_bytes seed salt_place 8) else 0
 new_salt c opts (Err why) = 0
 
 -- the master key that a seed's words make
 abbrev pub seeded_master : Ciphers → Suite → List ℕ → Master
 seeded_master c suite seed = record {
-  guid = little_endian_value (c.seed_bytes seed guid_place 2);
+  guid = little_endian_value (c.seed_bytes seed guid_place 8);
   suite = suite;
-  master = take (suite_key_len suite) (c.seed_bytes seed master_place 8);
-  hmac = c.seed_bytes seed hmac_place 16;
+  master = c.seed_bytes seed master_place (suite_key_len suite);
+  hmac = c.seed_bytes seed hmac_place 64;
 }
 
 -- its record under a wrapping key
 abbrev pub seeded_record : Ciphers → Suite → List ℕ → List ℕ → List ℕ
 seeded_record c suite seed key =
-    c.record_of (seeded_master c suite seed) key (c.seed_bytes seed (vector_place 0) 3)
+    c.record_of (seeded_master c suite seed) key (c.seed_bytes seed (vector_place 0) 12)
 
 -- the key of the parent's owner
 abbrev pub parent_key : Plain → Option Row → List ℕ

@@ -1,5 +1,5 @@
 -- What is asked of ciphers, and when what is told of a command's material is fair: it could have come from real material.
-use Rattle.std.specs.Prelude.{◌≡◌, ◌⊎◌, ℕ, ◌+◌, ◌*◌, ◌^◌, ◌<◌, List, [], ◌∷◌, length, map, true, is_some, if◌then◌else◌, Ok}
+use Rattle.std.specs.Prelude.{◌≡◌, ◌⊎◌, ℕ, ◌+◌, ◌^◌, ◌<◌, List, [], ◌∷◌, length, map, true, is_some, if◌then◌else◌, Ok}
 use Rattle.std.specs.declared.option.Option.{Option}
 use Rattle.std.specs.declared.option.Option.TheVariants.{Some, None}
 use Rattle.std.specs.List.{All}
@@ -28,12 +28,12 @@ pub record IsMaster (m : Master) : Type 0 where
   pub master : length m.master ≡ suite_key_len m.suite
   pub hmac : length m.hmac ≡ 64
 
--- A record that is made opens, under its wrapping key, to its master key; a word has four bytes, so that two are a number of 64
--- bits; and material gives keys of 32 bytes.
+-- A record that is made opens, under its wrapping key, to its master key; a seed gives as many bytes as are asked for; and material
+-- gives keys of 32 bytes.
 pub record AreSound (c : Ciphers) : Type 0 where
   pub opened : (m : Master) (key vector : List ℕ) → IsMaster m → length vector ≡ 12 → c.opens (c.record_of m key vector) key ≡ Some m
-  pub words : (seed : List ℕ) (place n : ℕ) → length (c.seed_bytes seed place n) ≡ 4 * n
-  pub numbers : (seed : List ℕ) (place : ℕ) → little_endian_value (c.seed_bytes seed place 2) < 2 ^ 64
+  pub words : (seed : List ℕ) (place n : ℕ) → length (c.seed_bytes seed place n) ≡ n
+  pub numbers : (seed : List ℕ) (place : ℕ) → little_endian_value (c.seed_bytes seed place 8) < 2 ^ 64
   pub keys : (format : Format) (material : List ℕ) (iters salt : ℕ) (key : List ℕ) → c.wkey format material iters salt ≡ Ok key → length key ≡ key_len
 
 -- ---- kits

@@ -53,12 +53,12 @@ pub record Master : Type 0 where
 
 -- What the definitions take from outside, since they know no cipher: the master key to which a stored record opens under a wrapping
 -- key; the stored record of a master key under a wrapping key and an initialization vector; the wrapping key of material in a format
--- with iterations and salt, or what is wrong with the material; and some words of a seed from a place on, four bytes each.
+-- with iterations and salt, or what is wrong with the material; and so many bytes of a seed's words from a place on.
 pub record Ciphers : Type 0 where
   pub opens : (stored key : List ℕ) → Option Master
   pub record_of : Master → (key vector : List ℕ) → List ℕ
   pub wkey : Format → (material : List ℕ) (iters salt : ℕ) → Result (List ℕ) Refusal
-  pub seed_bytes : (seed : List ℕ) (place words : ℕ) → List ℕ
+  pub seed_bytes : (seed : List ℕ) (place count : ℕ) → List ℕ
 
 -- ---- looking things up
 

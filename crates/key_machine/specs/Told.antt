@@ -1,5 +1,5 @@
 -- What the material of a command tells: its first fault, the record that doesn't open, the key, the salt, and the records to write.
-use Rattle.std.specs.Prelude.{ℕ, ◌+◌, ◌*◌, Bool, false, List, [], replicate, Result, Ok, Err}
+use Rattle.std.specs.Prelude.{ℕ, Bool, false, List, [], replicate, Result, Ok, Err}
 use Rattle.std.specs.declared.option.Option.{Option}
 use Rattle.std.specs.declared.option.Option.TheVariants.{Some, None}
 use Rattle.dataset_tree.specs.declared.kinds.Format.{Format}
@@ -58,21 +58,3 @@ abbrev pub seed_of : SeedGot → Result (List ℕ) Refusal
 seed_of (seeds.Got seed) = Ok seed
 seed_of seeds.Fault = Err EntropyFault
 seed_of seeds.NotAsked = Err EntropyFault
-
--- ---- places of a seed's words, which are four bytes each
-
-abbrev pub master_place : ℕ
-master_place = 0
-
-abbrev pub hmac_place : ℕ
-hmac_place = 8
-
-abbrev pub guid_place : ℕ
-guid_place = 24
-
-abbrev pub salt_place : ℕ
-salt_place = 34
-
--- of the initialization vector of the i-th record that a command writes
-abbrev pub vector_place : ℕ → ℕ
-vector_place i = 36 + 3 * i
