@@ -1,7 +1,7 @@
 // Wrapping keys from fetched material.
 ghost use Rattle.std.specs.Prelude.{◌≡◌, ℕ};
 ghost use Rattle.key_machine.specs.Told.{key_of};
-ghost use Rattle.key_store.specs.Ciphers.{ciphers, raw_key, wrapping_key};
+ghost use Rattle.key_ciphers.specs.Ciphers.{ciphers, raw_key, wrapping_key};
 
 use dataset_tree::{Format, MaterialFault, Refusal};
 use encryption_roots::Fetched;
@@ -9,8 +9,12 @@ use encryption_roots::Fetched;
 /// The bytes of a wrapping key.
 const KEY_LEN: usize = 32;
 
-/// The wrapping key that was fetched, or why there is none.
-pub(crate) fn fetched_key(format: Format, fetched: &Fetched) -> Result<[u8; 32], Refusal>
+/// The wrapping key of 32 bytes that was fetched.
+///
+/// # Errors
+/// `KeyFileMissing` where there is no such file, `KeyFault` where it couldn't be read or wasn't asked for, and `BadMaterial` where
+/// the material is no key.
+pub fn fetched_key(format: Format, fetched: &Fetched) -> Result<[u8; 32], Refusal>
     ensures { (iters salt : ℕ) → result ≡ key_of ciphers format iters salt fetched.now }
 {
     match fetched {

@@ -1,5 +1,5 @@
--- The ciphers that the keystore gives to the definitions of the machine: key records, the wrapping key of key material, and the
--- words of a seed.
+-- The ciphers that are given to the definitions of the machine: key records, the wrapping key of key material, and the words of a
+-- seed.
 use Rattle.std.specs.Prelude.{ℕ, nat_lt, List, length, if◌then◌else◌, Result, Ok, Err}
 use Rattle.std.specs.Option.{option_map}
 use Rattle.dataset_tree.specs.declared.kinds.Format.{Format}
