@@ -21,46 +21,39 @@ suite_numbered-number Aes128Gcm = refl
 suite_numbered-number Aes192Gcm = refl
 suite_numbered-number Aes256Gcm = refl
 
-suite_numbered-none : (number : ℕ) → ((suite : Suite) → suite_number suite ≢ number) → suite_numbered number ≡ None
-suite_numbered-none number none =
-    let six : (number == 6) ≡ false = ne_eqb number 6 (λ e. none Aes128Gcm (sym e)) in
-    let seven : (number == 7) ≡ false = ne_eqb number 7 (λ e. none Aes192Gcm (sym e)) in
-    let eight : (number == 8) ≡ false = ne_eqb number 8 (λ e. none Aes256Gcm (sym e)) in
-    rw (six, seven, eight) refl
-
 -- ---- the reading, by its tests
 
 pub parsed_short : (bytes : List ℕ) → length bytes ≤ 8 → parsed_record bytes ≡ None
 unfolding parsed_record
 parsed_short bytes short = rw (get_or_past bytes 8 0 short) refl
 
-pub parsed_no_suite : (bytes : List ℕ) → ((suite : Suite) → suite_number suite ≢ slice_index bytes 8) → parsed_record bytes ≡ None
+pub parsed_no_suite : (bytes : List ℕ) → suite_numbered (slice_index bytes 8) ≡ None → parsed_record bytes ≡ None
 unfolding parsed_record
-parsed_no_suite bytes none = rw (suite_numbered-none (slice_index bytes 8) none) refl
+parsed_no_suite bytes none = rw none refl
 
-pub parsed_other_length : (suite : Suite) (bytes : List ℕ) → suite_number suite ≡ slice_index bytes 8
+pub parsed_other_length : (suite : Suite) (bytes : List ℕ) → suite_numbered (slice_index bytes 8) ≡ Some suite
     → length bytes ≢ 38 + sealed_len suite → parsed_record bytes ≡ None
 unfolding parsed_record
 parsed_other_length suite bytes named other =
     let short : (length bytes == 38 + sealed_len suite) ≡ false = ne_eqb (length bytes) (38 + sealed_len suite) other in
-    rw (← named, suite_numbered-number suite, short) refl
+    rw (named, short) refl
 
-pub parsed_other_version : (suite : Suite) (bytes : List ℕ) → suite_number suite ≡ slice_index bytes 8
+pub parsed_other_version : (suite : Suite) (bytes : List ℕ) → suite_numbered (slice_index bytes 8) ≡ Some suite
     → length bytes ≡ 38 + sealed_len suite → slice_index bytes 9 ≢ 1 → parsed_record bytes ≡ None
 unfolding parsed_record
 parsed_other_version suite bytes named whole other =
     let long : (length bytes == 38 + sealed_len suite) ≡ true = eq-eqb (length bytes) (38 + sealed_len suite) whole in
     let old : (slice_index bytes 9 == 1) ≡ false = ne_eqb (slice_index bytes 9) 1 other in
-    rw (← named, suite_numbered-number suite, long, old) refl
+    rw (named, long, old) refl
 
-pub parsed_good : (suite : Suite) (bytes : List ℕ) → suite_number suite ≡ slice_index bytes 8
+pub parsed_good : (suite : Suite) (bytes : List ℕ) → suite_numbered (slice_index bytes 8) ≡ Some suite
     → length bytes ≡ 38 + sealed_len suite → slice_index bytes 9 ≡ 1
     → parsed_record bytes ≡ Some (record_at suite bytes)
 unfolding parsed_record
 parsed_good suite bytes named whole version =
     let long : (length bytes == 38 + sealed_len suite) ≡ true = eq-eqb (length bytes) (38 + sealed_len suite) whole in
     let current : (slice_index bytes 9 == 1) ≡ true = eq-eqb (slice_index bytes 9) 1 version in
-    rw (← named, suite_numbered-number suite, long, current) refl
+    rw (named, long, current) refl
 
 -- ---- each is the inverse of the other
 
@@ -113,7 +106,7 @@ bytes_have_version r = refl
 
 pub parsed_record-record_bytes : (r : RecordValue) → IsRecord r → parsed_record (record_bytes r) ≡ Some r
 parsed_record-record_bytes r is =
-    parsed_good r.suite (record_bytes r) (bytes_name_suite r) (length-record_bytes r is) (bytes_have_version r ∙ is.version)
+    parsed_good r.suite (record_bytes r) (ap suite_numbered (sym (bytes_name_suite r)) ∙ suite_numbered-number r.suite) (length-record_bytes r is) (bytes_have_version r ∙ is.version)
     ∙ ap Some (record_at-bytes r is)
 
 pub is_record-value : (a : Inside) → IsPaddedRecord a → a.guid < 2 ^ 64 → length a.iv ≡ 12 → length a.mac ≡ 16 → length a.sealed ≡ 96

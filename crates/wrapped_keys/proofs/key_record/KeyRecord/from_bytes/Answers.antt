@@ -1,5 +1,5 @@
 use Rattle.std.proofs.Common.{◌≡◌, ◌+◌, slice_index, Some, sym, ap, ◌∙◌}
-use Rattle.dataset_tree.specs.Suite.{suite_number}
+use Rattle.dataset_tree.specs.Suite.{suite_numbered}
 use Rattle.wrapped_keys.specs.Values.{sealed_len}
 use Rattle.wrapped_keys.proofs.StoredLaws.{parsed_short, parsed_no_suite, parsed_other_length, parsed_other_version, parsed_good}
 use Rattle.wrapped_keys.proofs.key_record.KeyRecord.from_bytes.Goals as goal
@@ -14,12 +14,12 @@ pub returns-in_err-suite-clause-parsed : goal.returns-in_err-suite-clause-parsed
 returns-in_err-suite-clause-parsed c =
     let found = c.in_ok-get.ensures.lookup.3.1 0 in
     rw (c.from_residual-in_err-suite.ensures, ← c.as_slice-bytes.ensures.bytes)
-    (sym (parsed_no_suite c.as_slice-bytes.result.now (λ suite named. c.in_err-suite.ensures.none suite (named ∙ sym found))))
+    (sym (parsed_no_suite c.as_slice-bytes.result.now (ap suite_numbered (sym found) ∙ sym c.in_err-suite.ensures)))
 
 pub returns-then-bytes-sealed_len-clause-parsed : goal.returns-then-bytes-sealed_len-clause-parsed
 returns-then-bytes-sealed_len-clause-parsed c =
-    let named : suite_number c.in_ok-suite.suite ≡ slice_index c.as_slice-bytes.result.now 8 =
-    c.in_ok-suite.ensures.found ∙ c.in_ok-get.ensures.lookup.3.1 0 in
+    let named : suite_numbered (slice_index c.as_slice-bytes.result.now 8) ≡ Some c.in_ok-suite.suite =
+    ap suite_numbered (sym (c.in_ok-get.ensures.lookup.3.1 0)) ∙ sym c.in_ok-suite.ensures in
     let width : 38 + c.sealed_len.result ≡ 38 + sealed_len c.in_ok-suite.suite = ap (λ n. 38 + n) c.sealed_len.ensures in
     rw (← c.as_slice-bytes.ensures.bytes)
     (elim c.then-bytes-sealed_len.branch [
@@ -31,8 +31,8 @@ returns-then-bytes-sealed_len-clause-parsed c =
 
 pub returns-clause-parsed : goal.returns-clause-parsed
 returns-clause-parsed c =
-    let named : suite_number c.in_ok-suite.suite ≡ slice_index c.as_slice-bytes.result.now 8 =
-    c.in_ok-suite.ensures.found ∙ c.in_ok-get.ensures.lookup.3.1 0 in
+    let named : suite_numbered (slice_index c.as_slice-bytes.result.now 8) ≡ Some c.in_ok-suite.suite =
+    ap suite_numbered (sym (c.in_ok-get.ensures.lookup.3.1 0)) ∙ sym c.in_ok-suite.ensures in
     rw (← c.as_slice-bytes.ensures.bytes)
     (ap Some c.read_fields.ensures.fields
     ∙ sym (parsed_good c.in_ok-suite.suite c.as_slice-bytes.result.now named (c.if-bytes-sealed_len.false ∙ ap (λ n. 38 + n) c.sealed_len.ensures) c.if-bytes-ne-VERSION.false))
