@@ -1,0 +1,14 @@
+-- Lines whose record size, where they have one, is in form.
+use Rattle.std.specs.Prelude.{IfSome}
+use Rattle.encryption_roots.specs.RecordSize.{IsRecordSize}
+use Rattle.encryption_roots.specs.declared.props.Options.{Options}
+use Rattle.shell_lines.specs.declared.line.Line.{Line}
+use Rattle.shell_lines.specs.declared.line.Line.TheVariants.{Create}
+
+abbrev pub SizedOptions : Options → Type 0
+SizedOptions options = IfSome options.block IsRecordSize
+
+-- the record size of a new dataset, where the line has one, is in form
+abbrev pub HasRecordSize : Line → Type 0
+HasRecordSize (Create name options) = SizedOptions options
+HasRecordSize line = Unit {0}
