@@ -10,9 +10,9 @@ use Rattle.dataset_tree.specs.Refusal.{Gives}
 use Rattle.encryption_roots.specs.declared.kit.LineKit.{LineKit}
 use Rattle.encryption_roots.specs.declared.command.KeyCmd.{KeyCmd}
 use Rattle.key_machine.specs.Plain.{Plain}
-use Rattle.key_machine.specs.Needs.{Wanted, wanted}
-use Rattle.key_machine.specs.Refusals.{refusal_of}
-use Rattle.key_machine.specs.Step.{Reply, Done, Made, Text, Refused, Reaped, Skipped, Stepped}
+use Rattle.key_machine.specs.Reply.{Reply, Done, Made, Text, Refused, Reaped, Skipped}
+use Rattle.key_machine.specs.Step.{refusal_of, wanted}
+use Rattle.key_machine.specs.Told.{Wanted}
 use Rattle.key_store.specs.declared.needs.Needs.{Needs}
 use Rattle.key_store.specs.Calls.{stepped, state_after, needs_of, needed, needed_unless, AnswersMade, AnswersDone}
 use Rattle.shell_lines.specs.declared.line.Line.{Line}

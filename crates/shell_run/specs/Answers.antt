@@ -22,9 +22,8 @@ use Rattle.encryption_roots.specs.declared.kit.LineKit.{LineKit}
 use Rattle.encryption_roots.specs.declared.props.Location.{Location}
 use Rattle.encryption_roots.specs.RecordSize.{IsRecordSize}
 use Rattle.key_machine.specs.Fair.{WasAsked, SeedWasAsked}
-use Rattle.key_machine.specs.Needs.{Wanted}
-use Rattle.key_machine.specs.Plain.{Plain}
-use Rattle.key_machine.specs.Step.{Reply, Done, Made, Text, Refused, Reaped, Skipped}
+use Rattle.key_machine.specs.Reply.{Reply, Done, Made, Text, Refused, Reaped, Skipped}
+use Rattle.key_machine.specs.Told.{Wanted}
 use Rattle.key_store.specs.declared.needs.Needs.{Needs}
 use Rattle.shell_lines.specs.declared.line.Line.{Line}
 use Rattle.shell_lines.specs.declared.line.LineStop.{LineStop}

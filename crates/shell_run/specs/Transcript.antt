@@ -19,9 +19,9 @@ use Rattle.encryption_roots.specs.declared.kit.LineKit.{LineKit}
 use Rattle.encryption_roots.specs.declared.command.KeyCmd.{KeyCmd}
 use Rattle.encryption_roots.specs.declared.command.KeyCmd.TheVariants as commands
 use Rattle.key_machine.specs.Plain.{Plain, no_keys}
-use Rattle.key_machine.specs.Needs.{Wanted, wanted}
-use Rattle.key_machine.specs.Refusals.{refusal_of}
-use Rattle.key_machine.specs.Step.{Reply, Done, Made, Text, Refused, Reaped, Skipped}
+use Rattle.key_machine.specs.Reply.{Reply, Done, Made, Text, Refused, Reaped, Skipped}
+use Rattle.key_machine.specs.Step.{refusal_of, wanted}
+use Rattle.key_machine.specs.Told.{Wanted}
 use Rattle.key_store.specs.Calls.{stepped}
 use Rattle.shell_lines.specs.declared.line.Line.{Line}
 use Rattle.shell_lines.specs.declared.line.Line.TheVariants.{Silent, Create, LoadKey, UnloadKey, Get, List as ListSets}

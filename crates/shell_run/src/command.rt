@@ -1,7 +1,7 @@
 // A key command: what it takes, and what it does.
 ghost use Rattle.std.specs.Prelude.{◌≡◌, List, IfOk, is_some, true};
 ghost use Rattle.edge_io.specs.Faults.{Rose};
-ghost use Rattle.key_machine.specs.Fair.{Suffices, WasAsked};
+ghost use Rattle.key_machine.specs.Fair.{WasAsked};
 ghost use Rattle.key_store.specs.Calls.{stepped, state_after};
 ghost use Rattle.shell_run.specs.declared.found.FoundEntry.{FoundEntry};
 ghost use Rattle.shell_run.specs.Answers.{Acts, Agrees, Executes, Fetches, HasSize, HasWanted, Replies, TakesKit, WhereTold, spot_of, wants_of};
@@ -54,8 +54,7 @@ pub(crate) fn execute<W: Outside>(
 
 /// Carries out a command with its kit.
 fn carry(keys: &mut KeyState, command: &KeyCmd, kit: &LineKit) -> Result<Shown, Stop>
-    requires size { HasSize command.now }
-    requires kit { Suffices keys.old command.now kit.now }
+    requires { HasSize command.now }
     ensures reply { Replies result (stepped keys.old command.now kit.now).reply }
     ensures state { keys.new ≡ state_after result keys.old (stepped keys.old command.now kit.now).state }
 {
@@ -80,7 +79,13 @@ fn carry(keys: &mut KeyState, command: &KeyCmd, kit: &LineKit) -> Result<Shown, 
             None => Err(Stop::Refused(Refusal::NoSuch)),
             Some(id) => Ok(Shown::Text(keys.get_prop(id, *prop)?)),
         },
-        _ => Ok(Shown::Done),
+        KeyCmd::Change { .. }
+        | KeyCmd::Inherit { .. }
+        | KeyCmd::Mount { .. }
+        | KeyCmd::Unmount { .. }
+        | KeyCmd::Clone { .. }
+        | KeyCmd::Receive { .. }
+        | KeyCmd::Destroy { .. } => Err(Stop::Refused(Refusal::BadOptions)),
     }
 }
 
