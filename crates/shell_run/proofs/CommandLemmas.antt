@@ -7,6 +7,7 @@ use Rattle.dataset_tree.specs.declared.refusal.Refusal.{Refusal}
 use Rattle.dataset_tree.specs.declared.refusal.Stop.{Stop}
 use Rattle.dataset_tree.specs.declared.refusal.Stop.TheVariants as stops
 use Rattle.dataset_tree.specs.Refusal.{Gives}
+use Rattle.dataset_tree.specs.Tree.{Datasets}
 use Rattle.encryption_roots.specs.declared.kit.LineKit.{LineKit}
 use Rattle.encryption_roots.specs.declared.command.KeyCmd.{KeyCmd}
 use Rattle.key_machine.specs.Plain.{Plain}
@@ -18,6 +19,7 @@ use Rattle.key_store.specs.Calls.{stepped, state_after, needs_of, needed, needed
 use Rattle.shell_lines.specs.declared.line.Line.{Line}
 use Rattle.shell_lines.specs.declared.line.LineStop.{LineStop}
 use Rattle.shell_lines.specs.declared.line.LineStop.TheVariants as line_stops
+use Rattle.shell_lines.specs.Grammar.{Spells}
 use Rattle.shell_run.specs.declared.command.Shown.{Shown}
 use Rattle.shell_run.specs.declared.command.Shown.TheVariants as shows
 use Rattle.shell_run.specs.declared.found.FoundEntry.{FoundEntry}
@@ -202,12 +204,13 @@ refused_turn n p outer why w (Ok ok) before after told printed =
     (told, printed ∙ ap (λ (q : Plain). before ++ error_line n q.tree.rows why) (sym (keys_told p outer w told)), refl)
 refused_turn n p outer why w (Err stop) before after told printed = front_nil _
 
-pub commands_refused : (n : ℕ) (p : Plain) (outer : Outer) (why : Refusal) (result : Result (Unit {0}) AllocError) (before after : List ℕ) → OnOk result (after ≡ before ++ error_line n p.tree.rows why)
+pub commands_refused : (n : ℕ) (p : Plain) (outer : Outer) (why : Refusal) (tree : Datasets) (result : Result (Unit {0}) AllocError) (before after : List ℕ) → tree ≡ p.tree → OnOk result (after ≡ before ++ error_line n tree.rows why)
     → Acts n outer outer (λ made. WhereTold (told_world p outer) made (λ entries w. Commands result n (Err (stops.Refused why)) entries w (told_world p outer) before after made))
-commands_refused n p outer why result before after printed =
+commands_refused n p outer why tree result before after same printed =
     acts_not n outer (λ made. WhereTold (told_world p outer) made (λ entries w. Commands result n (Err (stops.Refused why)) entries w (told_world p outer) before after made))
     (λ entries agrees. told_each p outer (λ w. Commands result n (Err (stops.Refused why)) entries w (told_world p outer) before after [])
-    (λ files left f e. refused_turn n p outer why (world_of p files left) result before after (told_of p outer files left f e) printed))
+    (λ files left f e. refused_turn n p outer why (world_of p files left) result before after (told_of p outer files left f e)
+    (subst (λ (t : Datasets). OnOk result (after ≡ before ++ error_line n t.rows why)) same printed)))
 
 pub commands_not : (n : ℕ) (p : Plain) (outer : Outer) (stop : AllocError) (before after : List ℕ)
     → Acts n outer outer (λ made. WhereTold (told_world p outer) made (λ entries w. Commands (Err stop) n (Err stops.NoMemory) entries w (told_world p outer) before after made))
@@ -287,15 +290,13 @@ spelled_stopped n p new a d line outcome stop before after spells acts =
     (λ w answered later. front_of_answer stop (answer_of n entries w line later) (told_world new d) before after made (answered later))
     (said entries agrees))) acts
 
-pub spelled_bad : (n at : ℕ) (p : Plain) (outer : Outer) (outcome : Result Line ℕ) (before after : List ℕ) → outcome ≡ Err at
-    → Acts n outer outer (λ made. WhereTold (told_world p outer) made (λ entries w. AnswersTo (Err (line_stops.Bad at)) n outcome entries w (told_world p outer) before after made))
-spelled_bad n at p outer outcome before after bad =
+-- bytes that spell none, or for which memory was wanting
+pub spelled_not : (n : ℕ) (p : Plain) (outer : Outer) (stop : LineStop) (outcome : Result Line ℕ) (before after : List ℕ) → Spells (Err stop) outcome
+    → Acts n outer outer (λ made. WhereTold (told_world p outer) made (λ entries w. AnswersTo (Err stop) n outcome entries w (told_world p outer) before after made))
+spelled_not n p outer (line_stops.Bad at) outcome before after bad =
     acts_not n outer (λ made. WhereTold (told_world p outer) made (λ entries w. AnswersTo (Err (line_stops.Bad at)) n outcome entries w (told_world p outer) before after made))
     (λ entries agrees. told_each p outer (λ w. AnswersTo (Err (line_stops.Bad at)) n outcome entries w (told_world p outer) before after []) (λ files left f e. (bad, refl)))
-
-pub spelled_not : (n : ℕ) (p : Plain) (outer : Outer) (outcome : Result Line ℕ) (before after : List ℕ)
-    → Acts n outer outer (λ made. WhereTold (told_world p outer) made (λ entries w. AnswersTo (Err line_stops.NoMemory) n outcome entries w (told_world p outer) before after made))
-spelled_not n p outer outcome before after =
+spelled_not n p outer line_stops.NoMemory outcome before after none =
     acts_not n outer (λ made. WhereTold (told_world p outer) made (λ entries w. AnswersTo (Err line_stops.NoMemory) n outcome entries w (told_world p outer) before after made))
     (λ entries agrees. told_each p outer (λ w. AnswersTo (Err line_stops.NoMemory) n outcome entries w (told_world p outer) before after []) (λ files left f e later. front_nil _))
 

@@ -1,5 +1,5 @@
 -- What a run has done, once its last line is written.
-use Rattle.std.proofs.Common.{◌≡◌, ◌≢◌, ◌⊎◌, inl, inr, ⊎_elim, ℕ, suc, ◌+◌, ◌*◌, ◌≤◌, ◌<◌, nat_lt, Bool, true, false, ◌||◌, List, [], ◌∷◌, ◌++◌, length, take, drop, if◌then◌else◌, Option, Some, None, IfSome, refl, ap, sym, ◌∙◌, subst, append_assoc, arith, length-append}
+use Rattle.std.proofs.Common.{◌≡◌, ◌≢◌, ◌⊎◌, inl, inr, ⊎_elim, ℕ, zero, suc, ◌+◌, ◌*◌, ◌≤◌, ◌<◌, nat_lt, Bool, true, false, ◌||◌, List, [], ◌∷◌, ◌++◌, length, take, drop, if◌then◌else◌, Option, Some, None, IfSome, refl, ap, sym, ◌∙◌, subst, append_assoc, arith, length-append, length-drop}
 use Rattle.std.specs.Option.{option_and_then, option_map}
 use Rattle.std.specs.List.{AllByRecursion}
 use Rattle.std.specs.Io.KnownBytes.{Appends}
@@ -205,11 +205,11 @@ enough_bytes number left [] enough fails = tt
 enough_bytes number left (first ∷ xs) enough fails =
     let none : first ≡ false = fails.0 ∙ long_enough left (omega (arith, enough)) in
     let rest : FailWhereListedOrShort [] (one_more number) (drop 32 left) xs = subst (λ (b : Bool). FailWhereListedOrShort [] (one_more number) (if b then left else drop 32 left) xs) none fails.1 in
-    (none, enough_bytes (one_more number) (drop 32 left) xs (dropped left (length xs) enough) rest) where
+    (none, enough_bytes (one_more number) (drop 32 left) xs (dropped left (length xs) (omega (arith, enough))) rest) where
   long_enough : (left : List ℕ) → 32 ≤ length left → is_short left ≡ false
   long_enough left long = grind (arith, nat_tests)
   dropped : (left : List ℕ) (n : ℕ) → 32 * (n + 1) ≤ length left → 32 * n ≤ length (drop 32 left)
-  dropped left n long = ?
+  dropped left n long = omega (arith, length-drop 32 left, long)
 
 no_fills : (made : List Taking) → AllByRecursion (λ fails. fails ≡ false) (fills_of made) → AllByRecursion (λ entry. is_fill entry.what ≡ false) (failures made)
 no_fills [] none = tt
@@ -244,7 +244,8 @@ enough_told made whole old found front same fails = by_told old.fills.made old.f
 no_failure : (xs : List Bool) (before now : ℕ) → (Rose before now → ⊥) → raised (failed_count xs) before ≤ now → failed_count xs ≡ 0
 no_failure xs before now kept rose = by_count (failed_count xs) rose where
   by_count : (n : ℕ) → raised n before ≤ now → n ≡ 0
-  by_count n rose = ?
+  by_count zero rose = refl
+  by_count (suc n) rose = absurd (kept (omega (arith, rose)))
 
 none_failures : (made : List Taking) → AllByRecursion (λ taking. is_fetch taking.entry.what || is_fill taking.entry.what ≡ true) made → failed_count (fetches_of made) ≡ 0 → failed_count (fills_of made) ≡ 0 → failures made ≡ []
 none_failures [] kinds fetches fills = refl

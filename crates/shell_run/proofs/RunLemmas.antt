@@ -10,12 +10,13 @@ use Rattle.edge_io.specs.Lines.{lines, first_line, next_line, rest_of}
 use Rattle.edge_io.proofs.LinesLemmas.{lines_next}
 use Rattle.edge_io.specs.declared.errors.Failed.{Failed}
 use Rattle.shell_lines.specs.declared.line.Line.{Line}
+use Rattle.shell_lines.specs.declared.line.LineStop.TheVariants as line_stops
 use Rattle.shell_lines.specs.Grammar.{line_of}
 use Rattle.shell_run.specs.declared.ending.Ending.{Ending}
 use Rattle.shell_run.specs.declared.ending.Ending.TheVariants.{Done, Usage, BadLine, ReadFault, WriteFault, NoMemory}
 use Rattle.shell_run.specs.declared.found.FoundEntry.{FoundEntry}
 use Rattle.shell_run.specs.Answers.{Acts, Agrees, AnswersTo, HasAnswer, HasTurn, WhereTold, answer_takings}
-use Rattle.shell_run.specs.Endings.{status_of, closing_line}
+use Rattle.shell_run.specs.Endings.{EndsInLine, SourceFaults, status_of, closing_line}
 use Rattle.shell_run.specs.Outer.{Outer, Takes}
 use Rattle.shell_run.specs.Progress.{Goes as GoesOn, Taken, Ends as EndsSo, TookCut, WroteLast, TakesLine, TakesNone, HasReplied, HasCut, Replied, LineRan, RunsFrom}
 use Rattle.shell_run.specs.Ran.{IsAnswered, IsFront, IsCut, Came, Closes, Took}
@@ -79,6 +80,37 @@ pub replied_cut : (n : ℕ) (a b : Outer) (world new : Option World) (outcome : 
 replied_cut n a b world new outcome reply t0 t1 part =
     acts_told n a b world (λ entries w made. AnswersTo (Ok tt) n outcome entries w new [] reply made) (λ entries w made. Replied (Some WriteFault) n outcome entries w new t0 t1 made)
     (λ entries w made answered later. has_cut (answer_if n entries w outcome later) new reply t0 t1 made (answered later) part)
+
+pub replied_bad : (n at : ℕ) (a b : Outer) (world new : Option World) (outcome : Result Line ℕ) (before after : List ℕ) (t : Option (List ℕ))
+    → Acts n a b (λ made. WhereTold world made (λ entries w. AnswersTo (Err (line_stops.Bad at)) n outcome entries w new before after made))
+    → Acts n a b (λ made. WhereTold world made (λ entries w. Replied (Some (BadLine n at)) n outcome entries w new t t made))
+replied_bad n at a b world new outcome before after t =
+    acts_told n a b world (λ entries w made. AnswersTo (Err (line_stops.Bad at)) n outcome entries w new before after made) (λ entries w made. Replied (Some (BadLine n at)) n outcome entries w new t t made)
+    (λ entries w made answered. (refl, answered.0, refl, answered.1))
+
+pub replied_not : (n : ℕ) (a b : Outer) (world new : Option World) (outcome : Result Line ℕ) (before after : List ℕ) (t : Option (List ℕ))
+    → Acts n a b (λ made. WhereTold world made (λ entries w. AnswersTo (Err line_stops.NoMemory) n outcome entries w new before after made))
+    → Acts n a b (λ made. WhereTold world made (λ entries w. Replied (Some NoMemory) n outcome entries w new t t made))
+replied_not n a b world new outcome before after t =
+    acts_told n a b world (λ entries w made. AnswersTo (Err line_stops.NoMemory) n outcome entries w new before after made) (λ entries w made. Replied (Some NoMemory) n outcome entries w new t t made)
+    (λ entries w made answered. (refl, answered))
+
+-- how a line that was taken can end the run
+
+pub not_done : (r : Option Ending) → EndsInLine r → r ≢ Some Done
+not_done r kinds same = let none : EndsInLine (Some Done) = subst EndsInLine same kinds in none
+
+pub not_usage : (r : Option Ending) → EndsInLine r → r ≢ Some Usage
+not_usage r kinds same = let none : EndsInLine (Some Usage) = subst EndsInLine same kinds in none
+
+pub source_kept : (r : Option Ending) (before now : ℕ) → EndsInLine r → now ≡ before → SourceFaults r before now
+source_kept None before now kinds same = same
+source_kept (Some (BadLine number at)) before now kinds same = same
+source_kept (Some WriteFault) before now kinds same = same
+source_kept (Some NoMemory) before now kinds same = same
+source_kept (Some Done) before now kinds same = absurd kinds
+source_kept (Some Usage) before now kinds same = absurd kinds
+source_kept (Some ReadFault) before now kinds same = absurd kinds
 
 -- ---- turns, one after another
 

@@ -390,3 +390,13 @@ own_entry n (other ∷ found) entry here = by_case (own_entry n found entry here
 pub agrees_own : (n : ℕ) (found : List FoundEntry) (made : List Taking) → AllByRecursion (λ taking. taking.entry.line ≡ n) made → Agrees found made → Agrees (entries_of n found) made
 agrees_own n found [] lines agrees = tt
 agrees_own n found (taking ∷ made) lines agrees = (own_entry n found taking.entry lines.0 ∙ agrees.0, agrees_own n found made lines.1 agrees.1)
+
+-- ---- the order
+
+pub no_part_before : (first second : FoundEntry) (later : List FoundEntry) → first.line ≡ second.line → second.part < first.part → AreInOrder (first ∷ second ∷ later) → ⊥
+no_part_before first second later line part order =
+    ⊎_elim (λ before. omega (arith, before, line)) (λ same. ⊎_elim (λ before. omega (arith, before, part)) (λ kind. omega (arith, kind.0, part)) same.1) order.0.0
+
+pub not_twice : (entry : FoundEntry) (later : List FoundEntry) → AreInOrder (entry ∷ entry ∷ later) → ⊥
+not_twice entry later order =
+    ⊎_elim (λ before. omega (arith, before)) (λ same. ⊎_elim (λ before. omega (arith, before)) (λ kind. omega (arith, kind.1)) same.1) order.0.0

@@ -1,7 +1,7 @@
 -- How a run ends, and what the parts of the run say of it.
 use Rattle.std.specs.Prelude.{◌≡◌, ◌⊎◌, ℕ, ◌≤◌, List, []}
 use Rattle.std.specs.declared.option.Option.{Option}
-use Rattle.std.specs.declared.option.Option.TheVariants.{Some}
+use Rattle.std.specs.declared.option.Option.TheVariants.{Some, None}
 use Rattle.edge_io.specs.Faults.{Rose}
 use Rattle.shell_run.specs.declared.ending.Ending.{Ending}
 use Rattle.shell_run.specs.declared.ending.Ending.TheVariants.{Done, Usage, BadLine, ReadFault, WriteFault, NoMemory}
@@ -38,3 +38,13 @@ SinkFaults ending before now = now ≡ before
 abbrev pub ClosesAs : Ending → Ending → Type 0
 ClosesAs (BadLine number at) closed = (closed ≡ BadLine number at) ⊎ (closed ≡ NoMemory)
 ClosesAs ending closed = closed ≡ ending
+
+-- a line that was taken goes on, or ends the run only by what it holds, its reply or want of memory
+abbrev pub EndsInLine : Option Ending → Type 0
+EndsInLine None = Unit {0}
+EndsInLine (Some (BadLine number at)) = Unit {0}
+EndsInLine (Some WriteFault) = Unit {0}
+EndsInLine (Some NoMemory) = Unit {0}
+EndsInLine (Some Done) = ⊥
+EndsInLine (Some Usage) = ⊥
+EndsInLine (Some ReadFault) = ⊥

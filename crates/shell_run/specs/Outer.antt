@@ -15,6 +15,9 @@ pub record Calls : Type 0 where
   pub failing : Option (List ℕ)
   pub faults : ℕ
 
+abbrev pub calls_of : Option ℕ → Option (List ℕ) → ℕ → Calls
+calls_of made failing faults = record { made = made; failing = failing; faults = faults }
+
 -- key files and entropy, as far as they are told, and the failed takings that are listed
 pub record Outer : Type 0 where
   pub files : Option (List (List ℕ × List ℕ))

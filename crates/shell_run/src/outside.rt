@@ -6,7 +6,7 @@ ghost use Rattle.edge_io.specs.Faults.{Rose};
 ghost use Rattle.edge_io.specs.KeyFiles.{fetched as fetched_at};
 ghost use Rattle.key_machine.specs.Fair.{WasAsked, SeedWasAsked};
 ghost use Rattle.shell_run.specs.Answers.{Acts, Fetches, Fills, FillsFrom, IsCalled, fetch_fails, is_fault, is_seed_fault};
-ghost use Rattle.shell_run.specs.Outer.{Calls, Outer};
+ghost use Rattle.shell_run.specs.Outer.{Calls, Outer, calls_of};
 ghost use Rattle.shell_run.specs.Takings.{is_fetch, is_fill};
 ghost use Rattle.shell_run.specs.Transcript.{material_of};
 
@@ -52,9 +52,9 @@ pub(crate) struct Lent<'a, F: KeyFiles, E: Entropy> {
 impl<F: KeyFiles, E: Entropy> Outside for Lent<'_, F, E> {
     ghost told = { λ lent. record {
       files = F.files lent.files.now;
-      fetches = record { made = F.calls lent.files.now; failing = F.failing lent.files.now; faults = F.faults lent.files.now };
+      fetches = calls_of (F.calls lent.files.now) (F.failing lent.files.now) (F.faults lent.files.now);
       entropy = E.left lent.entropy.now;
-      fills = record { made = E.calls lent.entropy.now; failing = E.failing lent.entropy.now; faults = E.faults lent.entropy.now };
+      fills = calls_of (E.calls lent.entropy.now) (E.failing lent.entropy.now) (E.faults lent.entropy.now);
       found = lent.found.now;
     } };
 
@@ -88,8 +88,8 @@ fn fetch_file<F: KeyFiles>(alloc: Global, files: &mut F, path: &PathText) -> Res
     ensures material { IfOk result (λ fetched. IfSome (F.files files.old) (λ told.
         fetched ≡ (if is_fault fetched then Fetched.Fault else material_of (fetched_at path.now told)))) }
     ensures call {
-        let before : Calls = record { made = F.calls files.old; failing = F.failing files.old; faults = F.faults files.old } in
-        let after : Calls = record { made = F.calls files.new; failing = F.failing files.new; faults = F.faults files.new } in
+        let before : Calls = calls_of (F.calls files.old) (F.failing files.old) (F.faults files.old) in
+        let after : Calls = calls_of (F.calls files.new) (F.failing files.new) (F.faults files.new) in
         IsCalled (next_listed (F.calls files.old) (F.failing files.old)) (fetch_fails result) before after }
     ensures files { F.files files.new ≡ F.files files.old }
     ensures asked { IfOk result (λ fetched. WasAsked fetched) }
@@ -106,8 +106,8 @@ fn fetch_file<F: KeyFiles>(alloc: Global, files: &mut F, path: &PathText) -> Res
 fn fill_seed<E: Entropy>(entropy: &mut E) -> SeedGot
     ensures seed { IfSome (E.left entropy.old) (λ left. FillsFrom left (E.left entropy.new) result) }
     ensures call {
-        let before : Calls = record { made = E.calls entropy.old; failing = E.failing entropy.old; faults = E.faults entropy.old } in
-        let after : Calls = record { made = E.calls entropy.new; failing = E.failing entropy.new; faults = E.faults entropy.new } in
+        let before : Calls = calls_of (E.calls entropy.old) (E.failing entropy.old) (E.faults entropy.old) in
+        let after : Calls = calls_of (E.calls entropy.new) (E.failing entropy.new) (E.faults entropy.new) in
         IsCalled (fill_fails (E.left entropy.old) (next_listed (E.calls entropy.old) (E.failing entropy.old))) (is_seed_fault result) before after }
     ensures asked { SeedWasAsked result }
 {

@@ -9,8 +9,8 @@ ghost use Rattle.key_machine.specs.Plain.{no_keys};
 ghost use Rattle.shell_lines.specs.Grammar.{line_of};
 ghost use Rattle.shell_run.specs.declared.found.FoundEntry.{FoundEntry};
 ghost use Rattle.shell_run.specs.Answers.{Acts, WhereTold};
-ghost use Rattle.shell_run.specs.Endings.{closing_line, SourceFaults, SinkFaults, ClosesAs};
-ghost use Rattle.shell_run.specs.Outer.{Calls, Outer};
+ghost use Rattle.shell_run.specs.Endings.{EndsInLine, closing_line, SourceFaults, SinkFaults, ClosesAs};
+ghost use Rattle.shell_run.specs.Outer.{Outer, calls_of};
 ghost use Rattle.shell_run.specs.Progress.{Ends, LineRan, Replied, RunsFrom, TakesLine, TakesNone, TookCut, WroteLast};
 ghost use Rattle.shell_run.specs.Ran.{IsAnswered, Printed, Ran};
 ghost use Rattle.shell_run.specs.Texts.{usage_line};
@@ -67,16 +67,16 @@ pub fn run_alone<S: Source, O: Sink, F: KeyFiles, E: Entropy>(
     ensures ran {
         let before : Outer = record {
             files = F.files files.old;
-            fetches = record { made = F.calls files.old; failing = F.failing files.old; faults = F.faults files.old };
+            fetches = calls_of (F.calls files.old) (F.failing files.old) (F.faults files.old);
             entropy = E.left entropy.old;
-            fills = record { made = E.calls entropy.old; failing = E.failing entropy.old; faults = E.faults entropy.old };
+            fills = calls_of (E.calls entropy.old) (E.failing entropy.old) (E.faults entropy.old);
             found = found.old;
         } in
         let after : Outer = record {
             files = F.files files.new;
-            fetches = record { made = F.calls files.new; failing = F.failing files.new; faults = F.faults files.new };
+            fetches = calls_of (F.calls files.new) (F.failing files.new) (F.faults files.new);
             entropy = E.left entropy.new;
-            fills = record { made = E.calls entropy.new; failing = E.failing entropy.new; faults = E.faults entropy.new };
+            fills = calls_of (E.calls entropy.new) (E.failing entropy.new) (E.faults entropy.new);
             found = found.new;
         } in
         let run = told_transcript words.now (S.left script.old) before found.new in
@@ -291,6 +291,7 @@ fn reply_to<O: Sink, W: Outside>(
     ensures told { Acts number (W.told outside.old) (W.told outside.new) (λ made.
         WhereTold (told_world keys.old (W.told outside.old)) made (λ entries w.
         Replied result number (line_of line.now 0) entries w (told_world keys.new (W.told outside.new)) (O.taken out.old) (O.taken out.new) made)) }
+    ensures kinds { EndsInLine result }
     ensures sink { SinkFaults result (O.faults out.old) (O.faults out.new) }
     ensures holds { W.holds outside.new ≡ W.holds outside.old }
 {

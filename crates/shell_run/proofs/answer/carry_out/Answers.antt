@@ -1,4 +1,4 @@
-use Rattle.std.proofs.Common.{refl, false, None, ◌++◌, [], List, ℕ, ap, ◌∙◌}
+use Rattle.std.proofs.Common.{refl, false, None, Ok, ◌++◌, [], List, ℕ, ap, ◌∙◌}
 use Rattle.std.specs.List.{flat_map}
 use Rattle.dataset_tree.specs.SetName.{named}
 use Rattle.encryption_roots.specs.declared.command.KeyCmd.TheVariants as commands
@@ -7,13 +7,14 @@ use Rattle.shell_lines.specs.declared.line.Line.TheVariants.{Silent, Create, Loa
 use Rattle.shell_run.specs.Texts.{ok_line, set_line}
 use Rattle.shell_run.specs.Transcript.{command_named}
 use Rattle.shell_run.proofs.CommandLemmas.{carried, carried_still}
+use Rattle.shell_run.proofs.WritingLemmas.{append_nil}
 use Rattle.shell_run.proofs.answer.carry_out.Goals as goal
 
 pub returns-in-Silent-clause-told : goal.returns-in-Silent-clause-told
 returns-in-Silent-clause-told g c =
     rw c.in-Silent.is
-    (carried_still c.args.number c.args.keys.now (g.W.Outside.told c.args.outside.now) Silent (λ w. record { world = w; output = []; takings = []; lines = 1 }) [] _ c.args.output.now.items c.args.output.now.items
-    (λ entries w later. refl) (λ w. refl) (λ w. refl) (λ w. refl) (λ w keys. refl) ?)
+    (carried_still c.args.number c.args.keys.now (g.W.Outside.told c.args.outside.now) Silent (λ w. record { world = w; output = []; takings = []; lines = 1 }) [] (Ok tt) c.args.output.now.items c.args.output.now.items
+    (λ entries w later. refl) (λ w. refl) (λ w. refl) (λ w. refl) (λ w keys. refl) (append_nil c.args.output.now.items))
 
 pub returns-in-List-clause-told : goal.returns-in-List-clause-told
 returns-in-List-clause-told g c =

@@ -1,5 +1,5 @@
 use Rattle.shell_run.specs.Transcript.{told_world}
-use Rattle.shell_run.proofs.RunLemmas.{line_ran, line_not_taken}
+use Rattle.shell_run.proofs.RunLemmas.{line_ran, line_not_taken, not_done, not_usage, source_kept}
 use Rattle.shell_run.proofs.run.run_line.Goals as goal
 
 pub returns-in-Ok-clause-told : goal.returns-in-Ok-clause-told
@@ -10,3 +10,12 @@ returns-in-Ok-clause-told g c =
 pub returns-in-Err-clause-told : goal.returns-in-Err-clause-told
 returns-in-Err-clause-told g c =
     line_not_taken _ _ c.in-Err.ending c.args.number (g.W.Outside.told c.args.outside.now) (told_world c.args.keys.now (g.W.Outside.told c.args.outside.now)) _ c.requires c.in-Err.ensures.none
+
+pub returns-in-Ok-clause-end : goal.returns-in-Ok-clause-end
+returns-in-Ok-clause-end g c = λ done. absurd (not_done c.reply_to.result c.reply_to.ensures.kinds done)
+
+pub returns-in-Ok-clause-not_usage : goal.returns-in-Ok-clause-not_usage
+returns-in-Ok-clause-not_usage g c = not_usage c.reply_to.result c.reply_to.ensures.kinds
+
+pub returns-in-Ok-clause-source : goal.returns-in-Ok-clause-source
+returns-in-Ok-clause-source g c = source_kept c.reply_to.result _ _ c.reply_to.ensures.kinds c.in-Ok.ensures.source

@@ -6,9 +6,6 @@ use Rattle.shell_run.specs.Transcript.{World, told_world}
 use Rattle.shell_run.proofs.RunLemmas.{HasReached, reached_none, reached_more, reached_end, reached_limit}
 use Rattle.shell_run.proofs.run.run_lines.Goals as goal
 
-pub loop-number-starts : goal.loop-number-starts
-loop-number-starts g c = ?
-
 pub returns-in-Some-clause-told : goal.returns-in-Some-clause-told
 returns-in-Some-clause-told g c =
     let told : Option (List ℕ) = unread c.args.reader.now (g.S.Source.left c.args.script.now) in
