@@ -7,7 +7,6 @@ use Rattle.dataset_tree.specs.declared.refusal.Refusal.{Refusal}
 use Rattle.dataset_tree.specs.declared.refusal.Stop.{Stop}
 use Rattle.dataset_tree.specs.declared.refusal.Stop.TheVariants as stops
 use Rattle.dataset_tree.specs.Refusal.{Gives}
-use Rattle.dataset_tree.specs.Tree.{Datasets}
 use Rattle.encryption_roots.specs.declared.kit.LineKit.{LineKit}
 use Rattle.encryption_roots.specs.declared.command.KeyCmd.{KeyCmd}
 use Rattle.key_machine.specs.Plain.{Plain}
@@ -204,19 +203,18 @@ refused_turn n p outer why w (Ok ok) before after told printed =
     (told, printed ∙ ap (λ (q : Plain). before ++ error_line n q.tree.rows why) (sym (keys_told p outer w told)), refl)
 refused_turn n p outer why w (Err stop) before after told printed = front_nil _
 
-pub commands_refused : (n : ℕ) (p : Plain) (outer : Outer) (why : Refusal) (tree : Datasets) (result : Result (Unit {0}) AllocError) (before after : List ℕ) → tree ≡ p.tree → OnOk result (after ≡ before ++ error_line n tree.rows why)
-    → Acts n outer outer (λ made. WhereTold (told_world p outer) made (λ entries w. Commands result n (Err (stops.Refused why)) entries w (told_world p outer) before after made))
-commands_refused n p outer why tree result before after same printed =
+pub commands_stopped : (n : ℕ) (p : Plain) (outer : Outer) (stop : Stop) (result : Result (Unit {0}) AllocError) (before after : List ℕ) → OnOk result (Shows n p.tree.rows (Err stop) before after)
+    → Acts n outer outer (λ made. WhereTold (told_world p outer) made (λ entries w. Commands result n (Err stop) entries w (told_world p outer) before after made))
+commands_stopped n p outer (stops.Refused why) result before after printed =
     acts_not n outer (λ made. WhereTold (told_world p outer) made (λ entries w. Commands result n (Err (stops.Refused why)) entries w (told_world p outer) before after made))
     (λ entries agrees. told_each p outer (λ w. Commands result n (Err (stops.Refused why)) entries w (told_world p outer) before after [])
-    (λ files left f e. refused_turn n p outer why (world_of p files left) result before after (told_of p outer files left f e)
-    (subst (λ (t : Datasets). OnOk result (after ≡ before ++ error_line n t.rows why)) same printed)))
-
-pub commands_not : (n : ℕ) (p : Plain) (outer : Outer) (stop : AllocError) (before after : List ℕ)
-    → Acts n outer outer (λ made. WhereTold (told_world p outer) made (λ entries w. Commands (Err stop) n (Err stops.NoMemory) entries w (told_world p outer) before after made))
-commands_not n p outer stop before after =
-    acts_not n outer (λ made. WhereTold (told_world p outer) made (λ entries w. Commands (Err stop) n (Err stops.NoMemory) entries w (told_world p outer) before after made))
-    (λ entries agrees. told_each p outer (λ w. Commands (Err stop) n (Err stops.NoMemory) entries w (told_world p outer) before after []) (λ files left f e. (refl, λ same. absurd (cc))))
+    (λ files left f e. refused_turn n p outer why (world_of p files left) result before after (told_of p outer files left f e) printed))
+commands_stopped n p outer stops.NoMemory result before after printed =
+    acts_not n outer (λ made. WhereTold (told_world p outer) made (λ entries w. Commands result n (Err stops.NoMemory) entries w (told_world p outer) before after made))
+    (λ entries agrees. told_each p outer (λ w. Commands result n (Err stops.NoMemory) entries w (told_world p outer) before after []) (λ files left f e. (refl, never result printed))) where
+  never : (r : Result (Unit {0}) AllocError) → OnOk r (Shows n p.tree.rows (Err stops.NoMemory) before after) → r ≢ Ok tt
+  never (Ok ok) shown same = shown
+  never (Err stop) shown same = cc
 
 -- a command that a word gives
 pub named_turn : (n : ℕ) (result : Result (Unit {0}) AllocError) (command : Result KeyCmd Stop) (given : Result KeyCmd Refusal) (entries : List FoundEntry) (w : World) (new : Option World) (before after : List ℕ) (made : List Taking) → Gives command given

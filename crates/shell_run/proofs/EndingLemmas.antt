@@ -213,13 +213,14 @@ enough_bytes number left (first ∷ xs) enough fails =
 
 no_fills : (made : List Taking) → AllByRecursion (λ fails. fails ≡ false) (fills_of made) → AllByRecursion (λ entry. is_fill entry.what ≡ false) (failures made)
 no_fills [] none = tt
-no_fills (taking ∷ made) none = by_kind (is_fill taking.entry.what) refl none taking.fails refl where
-  by_kind : (kind : Bool) → is_fill taking.entry.what ≡ kind → AllByRecursion (λ fails. fails ≡ false) (if kind then taking.fails ∷ fills_of made else fills_of made) → (fails : Bool) → taking.fails ≡ fails
+no_fills (taking ∷ made) none = by_kind (no_fills made) (is_fill taking.entry.what) refl none taking.fails refl where
+  by_kind : (AllByRecursion (λ fails. fails ≡ false) (fills_of made) → AllByRecursion (λ entry. is_fill entry.what ≡ false) (failures made))
+      → (kind : Bool) → is_fill taking.entry.what ≡ kind → AllByRecursion (λ fails. fails ≡ false) (if kind then taking.fails ∷ fills_of made else fills_of made) → (fails : Bool) → taking.fails ≡ fails
       → AllByRecursion (λ entry. is_fill entry.what ≡ false) (if fails then taking.entry ∷ failures made else failures made)
-  by_kind true fill none true same = absurd (let not : taking.fails ≡ false = none.0 in cc)
-  by_kind true fill none false same = no_fills made none.1
-  by_kind false fill none true same = (fill, no_fills made none)
-  by_kind false fill none false same = no_fills made none
+  by_kind rest true fill none true same = absurd (let not : taking.fails ≡ false = none.0 in cc)
+  by_kind rest true fill none false same = rest none.1
+  by_kind rest false fill none true same = (fill, rest none)
+  by_kind rest false fill none false same = rest none
 
 fewer_fills : (made rest : List Taking) → length (fills_of made) ≤ length (fills_of (made ++ rest))
 fewer_fills made rest = let both : length (fills_of (made ++ rest)) ≡ length (fills_of made) + length (fills_of rest) = ap length (outcomes_both is_fill made rest) ∙ length-append (fills_of made) (fills_of rest) in omega (arith, both)
@@ -249,15 +250,15 @@ no_failure xs before now kept rose = by_count (failed_count xs) rose where
 
 none_failures : (made : List Taking) → AllByRecursion (λ taking. is_fetch taking.entry.what || is_fill taking.entry.what ≡ true) made → failed_count (fetches_of made) ≡ 0 → failed_count (fills_of made) ≡ 0 → failures made ≡ []
 none_failures [] kinds fetches fills = refl
-none_failures (taking ∷ made) kinds fetches fills = by_kind (is_fetch taking.entry.what) (is_fill taking.entry.what) taking.fails kinds.0 fetches fills where
-  by_kind : (fetch fill fails : Bool) → fetch || fill ≡ true → failed_count (if fetch then fails ∷ fetches_of made else fetches_of made) ≡ 0 → failed_count (if fill then fails ∷ fills_of made else fills_of made) ≡ 0
-      → (if fails then taking.entry ∷ failures made else failures made) ≡ []
-  by_kind true fill true some fetches fills = absurd (omega (arith, fetches))
-  by_kind true true false some fetches fills = none_failures made kinds.1 fetches fills
-  by_kind true false false some fetches fills = none_failures made kinds.1 fetches fills
-  by_kind false true true some fetches fills = absurd (omega (arith, fills))
-  by_kind false true false some fetches fills = none_failures made kinds.1 fetches fills
-  by_kind false false fails some fetches fills = absurd (cc)
+none_failures (taking ∷ made) kinds fetches fills = by_kind (none_failures made kinds.1) (is_fetch taking.entry.what) (is_fill taking.entry.what) taking.fails kinds.0 fetches fills where
+  by_kind : (failed_count (fetches_of made) ≡ 0 → failed_count (fills_of made) ≡ 0 → failures made ≡ []) → (fetch fill fails : Bool) → fetch || fill ≡ true
+      → failed_count (if fetch then fails ∷ fetches_of made else fetches_of made) ≡ 0 → failed_count (if fill then fails ∷ fills_of made else fills_of made) ≡ 0 → (if fails then taking.entry ∷ failures made else failures made) ≡ []
+  by_kind rest true fill true some fetches fills = absurd (omega (arith, fetches))
+  by_kind rest true true false some fetches fills = rest fetches fills
+  by_kind rest true false false some fetches fills = rest fetches fills
+  by_kind rest false true true some fetches fills = absurd (omega (arith, fills))
+  by_kind rest false true false some fetches fills = rest fetches fills
+  by_kind rest false false fails some fetches fills = absurd (cc)
 
 pub none_listed : (here : ℕ → Type 0) (made : List Taking) (old new : Outer) → Takes here made old new → old.found ≡ [] → (Rose old.fetches.faults new.fetches.faults → ⊥) → (Rose old.fills.faults new.fills.faults → ⊥) → new.found ≡ []
 none_listed here made old new takes empty files entropy =
@@ -302,6 +303,9 @@ ran_told (Some run) e closed t0 t1 t2 f0 f1 f2 old new made takes found ends clo
           (whole_output run (status_of closed) ends.replies wrote.part made f0 f2 came (last_closed (not_five (status_of closed) answered)) answered unfailed) written;
       enough = enough_told made (made_in run.turns) old new.found (made_front closed run ends.replies made came) found takes.fill_fails;
     }
+
+pub same_names : (a b d x y z : ℕ) → a ∷ b ∷ d ∷ [] ≡ x ∷ y ∷ z ∷ [] → (a ≡ x) × (b ≡ y) × (d ≡ z)
+same_names a b d x y z same = (cc, cc, cc)
 
 pub ran : {W : Type 0} (words : List W) (script : Option (List ℕ)) (e closed : Ending) (t0 t1 t2 : Option (List ℕ)) (f0 f1 f2 : ℕ) (old new : Outer) → old.found ≡ []
     → RunsFrom (λ line. line ≤ 1048576) old new (λ found made. IfSome script (λ bytes. IfSome (told_world no_keys old) (λ w. EndsSo e (transcript words bytes found w) made t0 t1)))

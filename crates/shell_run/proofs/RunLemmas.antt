@@ -4,8 +4,9 @@ use Rattle.std.specs.Io.KnownBytes.{Appends}
 use Rattle.std.specs.List.{AllByRecursion, flat_map}
 use Rattle.std.proofs.lemmas.Bool.Decides.{nat_tests}
 use Rattle.std.proofs.lemmas.List.{append-nil}
-use Rattle.key_machine.specs.Plain.{Plain}
+use Rattle.key_machine.specs.Plain.{Plain, no_keys}
 use Rattle.edge_io.specs.Faults.{HasCause, Rose}
+use Rattle.edge_io.specs.Told.{unread}
 use Rattle.edge_io.specs.Lines.{lines, first_line, next_line, rest_of}
 use Rattle.edge_io.proofs.LinesLemmas.{lines_next}
 use Rattle.edge_io.specs.declared.errors.Failed.{Failed}
@@ -18,11 +19,11 @@ use Rattle.shell_run.specs.declared.found.FoundEntry.{FoundEntry}
 use Rattle.shell_run.specs.Answers.{Acts, Agrees, AnswersTo, HasAnswer, HasTurn, WhereTold, answer_takings}
 use Rattle.shell_run.specs.Endings.{EndsInLine, SourceFaults, status_of, closing_line}
 use Rattle.shell_run.specs.Outer.{Outer, Takes}
-use Rattle.shell_run.specs.Progress.{Goes as GoesOn, Taken, Ends as EndsSo, TookCut, WroteLast, TakesLine, TakesNone, HasReplied, HasCut, Replied, LineRan, RunsFrom}
+use Rattle.shell_run.specs.Progress.{Goes as GoesOn, Taken, Ends as EndsSo, TookCut, WroteLast, TakesLine, TakesNone, HasReplied, HasCut, Replied, LineRan, RunsFrom, StaysTold}
 use Rattle.shell_run.specs.Ran.{IsAnswered, IsFront, IsCut, Came, Closes, Took}
 use Rattle.shell_run.specs.Takings.{Taking, has_entry, entries_of}
 use Rattle.shell_run.specs.Texts.{bad_line}
-use Rattle.shell_run.specs.Transcript.{World, told_world, Run, Turn, Answer, Goes, Ends, preceded, replies_of, made_in, goes_on, checked, answer_if, run_within, run_from}
+use Rattle.shell_run.specs.Transcript.{World, told_world, Run, Turn, Answer, Goes, Ends, preceded, replies_of, made_in, goes_on, checked, answer_if, run_within, run_from, transcript}
 use Rattle.shell_run.proofs.CommandLemmas.{front_nil, on_told}
 use Rattle.shell_run.proofs.TakingLemmas.{agrees_own, all_first, all_second, takes_none, takes_more, takes_weaker}
 use Rattle.shell_run.proofs.WritingLemmas.{append_nil, Appends-nil, Appends-append, Took-after, Took-from_Appends}
@@ -42,6 +43,27 @@ pub takes_none_long : (told left : Option (List ℕ)) (number at : ℕ) → at �
     → IfSome told (λ bytes. TakesNone (BadLine number at) number bytes left)
 takes_none_long None left number at e long = tt
 takes_none_long (Some bytes) left number at e long = let found = too_long bytes long in (refl, e, found.0, found.1, found.2, found.3)
+
+-- where a line was taken, what is left is told
+pub line_stays : (r : Option Ending) (told left : Option (List ℕ)) (line : List ℕ) → IfSome told (λ bytes. TakesLine line bytes left) → StaysTold r told left
+line_stays (Some e) told left line takes = tt
+line_stays None None left line takes = tt
+line_stays None (Some bytes) None line takes = absurd takes
+line_stays None (Some bytes) (Some rest) line takes = tt
+
+pub stays_none : (told : Option (List ℕ)) → StaysTold None told told
+stays_none None = tt
+stays_none (Some bytes) = tt
+
+pub stays_more : (a b c : Option (List ℕ)) → StaysTold None a b → StaysTold None b c → StaysTold None a c
+stays_more None b c p q = tt
+stays_more (Some bytes) None c p q = absurd p
+stays_more (Some bytes) (Some rest) c p q = q
+
+pub all_read : (told now left : Option (List ℕ)) → StaysTold None told now → IfSome now (λ bytes. left ≡ Some []) → IfSome told (λ bytes. left ≡ Some [])
+all_read None now left stays all = tt
+all_read (Some bytes) None left stays all = absurd stays
+all_read (Some bytes) (Some rest) left stays all = all
 
 -- ---- writing the closing line
 
@@ -495,12 +517,39 @@ no_memory_runs outer told start t = record { made = []; takes = takes_none (λ l
   each found (Some bytes) None = tt
   each found (Some bytes) (Some w) = no_memory_ends (run_from 1 (lines bytes) found w) t
 
--- a faulty command line
+-- a run from the reader's first byte on, over a host that holds nothing
+pub script_runs : (e : Ending) (keys : Plain) (reader : List ℕ) (left : Option (List ℕ)) (t0 t1 : Option (List ℕ)) (a b : Outer) → reader ≡ [] → keys ≡ no_keys
+    → RunsFrom (λ line. line ≤ 1048576) a b (λ found made. IfSome (unread reader left) (λ bytes. IfSome (told_world keys a) (λ w. EndsSo e (run_from 1 (lines bytes) found w) made t0 t1)))
+    → RunsFrom (λ line. line ≤ 1048576) a b (λ found made. IfSome left (λ bytes. IfSome (told_world no_keys a) (λ w. EndsSo e (run_from 1 (lines bytes) found w) made t0 t1)))
+script_runs e keys reader left t0 t1 a b empty none p = record {
+  made = p.made;
+  takes = p.takes;
+  said = λ found agrees.
+      let from : List ℕ → Plain → Type 0 = λ reader keys. IfSome (unread reader left) (λ bytes. IfSome (told_world keys a) (λ w. EndsSo e (run_from 1 (lines bytes) found w) p.made t0 t1)) in
+      each found left (subst (λ (r : List ℕ). from r no_keys) empty (subst (λ (k : Plain). from reader k) none (p.said found agrees)));
+} where
+  each : (found : List FoundEntry) (left : Option (List ℕ)) → IfSome (unread [] left) (λ bytes. IfSome (told_world no_keys a) (λ w. EndsSo e (run_from 1 (lines bytes) found w) p.made t0 t1))
+      → IfSome left (λ bytes. IfSome (told_world no_keys a) (λ w. EndsSo e (run_from 1 (lines bytes) found w) p.made t0 t1))
+  each found None said = tt
+  each found (Some bytes) said = said
 
-pub usage_ends : (usage : List ℕ) (t : Option (List ℕ)) → usage ≡ closing_line Usage → EndsSo Usage (record { turns = []; status = 2; last = usage }) [] t t
-usage_ends usage t same = record {
-  replies = [];
-  taken = Appends-nil t;
-  came = came_all (record { turns = []; status = 2; last = usage }) 2 (omega arith) refl;
-  last = λ answered. same;
-}
+pub words_run : {W : Type 0} (words : List W) (e : Ending) (script : Option (List ℕ)) (world : Option World) (t0 t1 : Option (List ℕ)) (a b : Outer) → length words < 1
+    → RunsFrom (λ line. line ≤ 1048576) a b (λ found made. IfSome script (λ bytes. IfSome world (λ w. EndsSo e (run_from 1 (lines bytes) found w) made t0 t1)))
+    → RunsFrom (λ line. line ≤ 1048576) a b (λ found made. IfSome script (λ bytes. IfSome world (λ w. EndsSo e (transcript words bytes found w) made t0 t1)))
+words_run [] e script world t0 t1 a b none p = p
+words_run (word ∷ words) e script world t0 t1 a b none p = absurd (omega (arith, none))
+
+-- a faulty command line
+pub words_usage : {W : Type 0} (words : List W) (script : Option (List ℕ)) (world : Option World) (t : Option (List ℕ)) (outer : Outer) → 1 ≤ length words
+    → RunsFrom (λ line. line ≤ 1048576) outer outer (λ found made. IfSome script (λ bytes. IfSome world (λ w. EndsSo Usage (transcript words bytes found w) made t t)))
+words_usage [] script world t outer some = absurd (omega (arith, some))
+words_usage (word ∷ words) script world t outer some = record { made = []; takes = takes_none (λ line. line ≤ 1048576) outer; said = λ found agrees. each found script world } where
+  each : (found : List FoundEntry) (script : Option (List ℕ)) (world : Option World) → IfSome script (λ bytes. IfSome world (λ w. EndsSo Usage (transcript (word ∷ words) bytes found w) [] t t))
+  each found None world = tt
+  each found (Some bytes) None = tt
+  each found (Some bytes) (Some w) = record {
+    replies = [];
+    taken = Appends-nil t;
+    came = came_all (transcript (word ∷ words) bytes found w) 2 (omega arith) refl;
+    last = λ answered. refl;
+  }

@@ -50,6 +50,11 @@ pub record WroteLast (line : List ℕ) (before after : Option (List ℕ)) (fault
 abbrev pub TakesLine : List ℕ → List ℕ → Option (List ℕ) → Type 0
 TakesLine line bytes left = IsSomeAnd left (λ rest. lines bytes ≡ line ∷ lines rest)
 
+-- Where the run goes on, a reader and a source that told their unread bytes still do.
+abbrev pub StaysTold : Option Ending → Option (List ℕ) → Option (List ℕ) → Type 0
+StaysTold None before now = IfSome before (λ bytes. IsSomeAnd now (λ rest. Unit {0}))
+StaysTold (Some ending) before now = Unit {0}
+
 -- why no line was taken
 abbrev pub TakesNone : Ending → ℕ → List ℕ → Option (List ℕ) → Type 0
 TakesNone Done number bytes left = (lines bytes ≡ []) × (left ≡ Some [])

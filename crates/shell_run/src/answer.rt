@@ -108,8 +108,7 @@ fn run_command<W: Outside>(
             let shown = execute(alloc, keys, outside, number, &command);
             push_shown(output, number, keys, &shown)
         }
-        Err(Stop::Refused(why)) => push_error(output, number, keys.tree(), &why),
-        Err(Stop::NoMemory) => Err(AllocError),
+        Err(stop) => push_shown(output, number, keys, &Err(stop)),
     }
 }
 

@@ -11,7 +11,7 @@ ghost use Rattle.shell_run.specs.declared.found.FoundEntry.{FoundEntry};
 ghost use Rattle.shell_run.specs.Answers.{Acts, WhereTold};
 ghost use Rattle.shell_run.specs.Endings.{EndsInLine, closing_line, SourceFaults, SinkFaults, ClosesAs};
 ghost use Rattle.shell_run.specs.Outer.{Outer, calls_of};
-ghost use Rattle.shell_run.specs.Progress.{Ends, LineRan, Replied, RunsFrom, TakesLine, TakesNone, TookCut, WroteLast};
+ghost use Rattle.shell_run.specs.Progress.{Ends, LineRan, Replied, RunsFrom, StaysTold, TakesLine, TakesNone, TookCut, WroteLast};
 ghost use Rattle.shell_run.specs.Ran.{IsAnswered, Printed, Ran};
 ghost use Rattle.shell_run.specs.Texts.{usage_line};
 ghost use Rattle.shell_run.specs.Transcript.{World, told_transcript, told_world, run_from, transcript};
@@ -239,6 +239,7 @@ fn run_line<S: Source, O: Sink, W: Outside>(
     ensures told { Acts number (W.told outside.old) (W.told outside.new) (λ made. IfSome (unread reader.old (S.left script.old)) (λ bytes.
         WhereTold (told_world keys.old (W.told outside.old)) made (λ found w.
         LineRan result number bytes (unread reader.new (S.left script.new)) found w (told_world keys.new (W.told outside.new)) (O.taken out.old) (O.taken out.new) made))) }
+    ensures unread { StaysTold result (unread reader.old (S.left script.old)) (unread reader.new (S.left script.new)) }
     ensures end { result ≡ Some Ending.Done → IfSome (unread reader.old (S.left script.old)) (λ bytes. unread reader.new (S.left script.new) ≡ Some []) }
     ensures not_usage { result ≢ Some Ending.Usage }
     ensures source { SourceFaults result (S.faults script.old) (S.faults script.new) }

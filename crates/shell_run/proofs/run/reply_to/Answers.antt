@@ -16,9 +16,9 @@ returns-in-Err-clause-told g c =
 pub returns-in-Err-Bad-clause-told : goal.returns-in-Err-Bad-clause-told
 returns-in-Err-Bad-clause-told g c =
     replied_bad c.args.number c.in-Err-Bad.at (g.W.Outside.told c.args.outside.now) (g.W.Outside.told c.answer.new.outside) (told_world c.args.keys.now (g.W.Outside.told c.args.outside.now)) (told_world c.answer.new.keys (g.W.Outside.told c.answer.new.outside))
-    (line_of c.args.line.now 0) _ _ _ (rw c.in-Err-Bad.field-0-is at c.in-Err-Bad.ensures.told)
+    (line_of c.args.line.now 0) c.clear.new.self.items c.answer.new.output.items _ (rw c.in-Err-Bad.field-0-is at c.in-Err-Bad.ensures.told)
 
 pub returns-in-Err-NoMemory-clause-told : goal.returns-in-Err-NoMemory-clause-told
 returns-in-Err-NoMemory-clause-told g c =
     replied_not c.args.number (g.W.Outside.told c.args.outside.now) (g.W.Outside.told c.answer.new.outside) (told_world c.args.keys.now (g.W.Outside.told c.args.outside.now)) (told_world c.answer.new.keys (g.W.Outside.told c.answer.new.outside))
-    (line_of c.args.line.now 0) _ _ _ (rw c.in-Err-NoMemory.field-0-is at c.in-Err-NoMemory.ensures.told)
+    (line_of c.args.line.now 0) c.clear.new.self.items c.answer.new.output.items _ (rw c.in-Err-NoMemory.field-0-is at c.in-Err-NoMemory.ensures.told)

@@ -1,5 +1,5 @@
 use Rattle.shell_run.specs.Transcript.{told_world}
-use Rattle.shell_run.proofs.RunLemmas.{line_ran, line_not_taken, not_done, not_usage, source_kept}
+use Rattle.shell_run.proofs.RunLemmas.{line_ran, line_not_taken, line_stays, not_done, not_usage, source_kept}
 use Rattle.shell_run.proofs.run.run_line.Goals as goal
 
 pub returns-in-Ok-clause-told : goal.returns-in-Ok-clause-told
@@ -19,3 +19,6 @@ returns-in-Ok-clause-not_usage g c = not_usage c.reply_to.result c.reply_to.ensu
 
 pub returns-in-Ok-clause-source : goal.returns-in-Ok-clause-source
 returns-in-Ok-clause-source g c = source_kept c.reply_to.result _ _ c.reply_to.ensures.kinds c.in-Ok.ensures.source
+
+pub returns-in-Ok-clause-unread : goal.returns-in-Ok-clause-unread
+returns-in-Ok-clause-unread g c = line_stays c.reply_to.result _ _ c.in-Ok.line.items c.in-Ok.ensures.line

@@ -1,10 +1,32 @@
-use Rattle.std.proofs.Common.{◌≡◌, ◌<◌, ◌≤◌, ◌+◌, ◌∙◌, Option, List, ℕ, subst, arith}
+use Rattle.std.proofs.Common.{◌≡◌, ◌<◌, ◌≤◌, ◌+◌, ◌∙◌, Option, Some, List, ℕ, refl, ap, subst, arith}
 use Rattle.edge_io.specs.Told.{unread}
 use Rattle.shell_run.specs.Outer.{Outer}
 use Rattle.shell_run.specs.Progress.{RunsFrom}
 use Rattle.shell_run.specs.Transcript.{World, told_world}
-use Rattle.shell_run.proofs.RunLemmas.{HasReached, reached_none, reached_more, reached_end, reached_limit}
+use Rattle.shell_run.proofs.RunLemmas.{HasReached, all_read, stays_none, stays_more, reached_none, reached_more, reached_end, reached_limit}
 use Rattle.shell_run.proofs.run.run_lines.Goals as goal
+
+pub loop-number-init : goal.loop-number-init
+loop-number-init g c =
+    let told : Option (List ℕ) = unread c.args.reader.now (g.S.Source.left c.args.script.now) in
+    let a : Outer = g.W.Outside.told c.args.outside.now in
+    record {
+      reached = reached_none c.args.first (λ line. line < c.args.first) a told (told_world c.args.keys.now a) (g.O.Sink.taken c.args.out.now);
+      unread = stays_none told;
+      source = refl;
+      sink = refl;
+      holds = refl;
+    }
+
+pub returns-in-Some-clause-end : goal.returns-in-Some-clause-end
+returns-in-Some-clause-end g c = λ done.
+    all_read (unread c.args.reader.now (g.S.Source.left c.args.script.now)) (unread c.loop-number.reader (g.S.Source.left c.loop-number.script)) (unread c.run_line.new.reader (g.S.Source.left c.run_line.new.script))
+    c.loop-number.invariant.unread (c.in-Some.ensures.end (ap (λ e. Some e) done))
+
+pub returns-clause-end : goal.returns-clause-end
+returns-clause-end g c = λ done.
+    all_read (unread c.args.reader.now (g.S.Source.left c.args.script.now)) (unread c.loop-number.reader (g.S.Source.left c.loop-number.script)) (unread c.end_at_limit.new.reader (g.S.Source.left c.end_at_limit.new.script))
+    c.loop-number.invariant.unread (c.end_at_limit.ensures.end done)
 
 pub returns-in-Some-clause-told : goal.returns-in-Some-clause-told
 returns-in-Some-clause-told g c =
@@ -28,6 +50,7 @@ loop-number-preserved g c =
     record {
       reached = reached_more c.args.first c.loop-number.number told now left (told_world c.args.keys.now a) (told_world c.loop-number.keys b) (told_world c.run_line.new.keys d)
           (g.O.Sink.taken c.args.out.now) (g.O.Sink.taken c.loop-number.out) (g.O.Sink.taken c.run_line.new.out) a b d c.loop-number.invariant.reached c.in_default.ensures.told;
+      unread = stays_more told now left c.loop-number.invariant.unread c.in_default.ensures.unread;
       source = c.in_default.ensures.source ∙ c.loop-number.invariant.source;
       sink = c.in_default.ensures.sink ∙ c.loop-number.invariant.sink;
       holds = c.run_line.ensures.holds ∙ c.loop-number.invariant.holds;
