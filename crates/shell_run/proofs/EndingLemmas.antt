@@ -15,7 +15,7 @@ use Rattle.shell_run.specs.declared.ending.Ending.TheVariants.{Done, Usage, BadL
 use Rattle.shell_run.specs.declared.found.FoundEntry.{FoundEntry}
 use Rattle.shell_run.specs.declared.found.FoundKind.{FoundKind}
 use Rattle.shell_run.specs.Answers.{Agrees}
-use Rattle.shell_run.specs.Endings.{status_of, closing_line, SinkFaults, ClosesAs}
+use Rattle.shell_run.specs.Endings.{status_of, closing_line, SourceFaults, SinkFaults, ClosesAs}
 use Rattle.shell_run.specs.Outer.{Outer, Calls, Called, Takes, FailWhereListedOrShort, failed_count}
 use Rattle.shell_run.specs.Progress.{Taken, Ends as EndsSo, WroteLast, RunsFrom}
 use Rattle.shell_run.specs.Ran.{IsAnswered, IsFront, IsCut, Came, Closes, Took, Printed, Ran, last_line}
@@ -316,3 +316,29 @@ ran words script e closed t0 t1 t2 f0 f1 f2 old new empty runs closes_as sink wr
     let agrees : Agrees new.found runs.made = subst (λ (es : List FoundEntry). Agrees es runs.made) (sym found) (agrees_failures runs.made runs.takes.order) in
     ran_told (told_transcript words script old new.found) e closed t0 t1 t2 f0 f1 f2 old new runs.made runs.takes found
     (told_run script (told_world no_keys old) (λ bytes w. transcript words bytes new.found w) (λ run. EndsSo e run runs.made t0 t1) (runs.said new.found agrees)) closes_as sink wrote kept
+
+-- ---- what a status says of the ending
+
+pub done_is : (e closed : Ending) → ClosesAs e closed → status_of closed ≡ 0 → e ≡ Done
+done_is Done closed closes_as none_bad = refl
+done_is Usage closed closes_as none_bad = absurd (let same : status_of closed ≡ 2 = ap status_of closes_as in omega (arith, same, none_bad))
+done_is ReadFault closed closes_as none_bad = absurd (let same : status_of closed ≡ 4 = ap status_of closes_as in omega (arith, same, none_bad))
+done_is WriteFault closed closes_as none_bad = absurd (let same : status_of closed ≡ 5 = ap status_of closes_as in omega (arith, same, none_bad))
+done_is NoMemory closed closes_as none_bad = absurd (let same : status_of closed ≡ 12 = ap status_of closes_as in omega (arith, same, none_bad))
+done_is (BadLine number at) closed closes_as none_bad =
+    absurd (⊎_elim (λ bad. let same : status_of closed ≡ 3 = ap status_of bad in omega (arith, same, none_bad)) (λ none. let same : status_of closed ≡ 12 = ap status_of none in omega (arith, same, none_bad)) closes_as)
+
+pub source_unread : (e closed : Ending) (before now : ℕ) → ClosesAs e closed → status_of closed ≢ 4 → SourceFaults (Some e) before now → now ≡ before
+source_unread Done closed before now closes_as other faults = faults
+source_unread Usage closed before now closes_as other faults = faults
+source_unread ReadFault closed before now closes_as other faults = absurd (other (ap status_of closes_as))
+source_unread WriteFault closed before now closes_as other faults = faults
+source_unread NoMemory closed before now closes_as other faults = faults
+source_unread (BadLine number at) closed before now closes_as other faults = faults
+
+pub sink_untouched : (e closed : Ending) (first before now : ℕ) → ClosesAs e closed → status_of closed ≡ 0 → SinkFaults (Some e) first before → (closing_line closed ≡ [] → now ≡ before) → now ≡ first
+sink_untouched e closed first before now closes_as none_bad faults kept =
+    let done : e ≡ Done = done_is e closed closes_as none_bad in
+    let closed_done : closed ≡ Done = subst (λ (x : Ending). ClosesAs x closed) done closes_as in
+    let before_same : before ≡ first = subst (λ (x : Ending). SinkFaults (Some x) first before) done faults in
+    kept (ap closing_line closed_done) ∙ before_same

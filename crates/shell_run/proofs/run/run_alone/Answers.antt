@@ -1,5 +1,5 @@
-use Rattle.std.proofs.Common.{◌≤◌, ◌∙◌, sym, ap}
-use Rattle.shell_run.proofs.EndingLemmas.{ran, none_listed, same_names}
+use Rattle.std.proofs.Common.{◌≡◌, ◌≤◌, ◌∙◌, sym}
+use Rattle.shell_run.proofs.EndingLemmas.{done_is, ran, none_listed, same_names, sink_untouched, source_unread}
 use Rattle.shell_run.proofs.run.run_alone.Goals as goal
 
 pub returns-clause-ran : goal.returns-clause-ran
@@ -16,3 +16,13 @@ returns-clause-none_failed g c =
     let names = same_names _ _ _ _ _ _ run.ensures.holds in
     rw (c.files-1.given.1 (sym names.0), c.entropy-1.given.1 (sym names.1), c.found-1.given.1 (sym names.2))
     (none_listed (λ line. line ≤ 1048576) run.ensures.told.made _ _ run.ensures.told.takes c.requires)
+
+pub returns-clause-read_to_its_end : goal.returns-clause-read_to_its_end
+returns-clause-read_to_its_end g c = λ none_bad. c.run_words-ending.ensures.end (done_is c.run_words-ending.result c.close.result c.close.ensures.ending (sym c.status.ensures ∙ none_bad))
+
+pub returns-clause-no_read_fault : goal.returns-clause-no_read_fault
+returns-clause-no_read_fault g c = λ other. source_unread c.run_words-ending.result c.close.result _ _ c.close.ensures.ending (λ four. other (c.status.ensures ∙ four)) c.run_words-ending.ensures.source
+
+pub returns-clause-no_write_fault : goal.returns-clause-no_write_fault
+returns-clause-no_write_fault g c = λ none_bad.
+    sink_untouched c.run_words-ending.result c.close.result _ (g.O.Sink.faults c.run_words-ending.new.out) _ c.close.ensures.ending (sym c.status.ensures ∙ none_bad) c.run_words-ending.ensures.sink (λ none. (c.close.ensures.silent none).0)
