@@ -11,7 +11,7 @@ pub use kinds::{Format, Kind, Suite};
 pub use name::SetName;
 pub use record::RecordBytes;
 pub use refusal::{MaterialFault, NoMemory, Refusal, Stop};
-pub use tree::{Row, Tree};
+pub use tree::{Row, Tree, names_find_their_rows};
 
 #[cfg(test)]
 mod tests;
