@@ -7,7 +7,7 @@ use Rattle.shell_lines.specs.declared.line.Line.{Line}
 use Rattle.shell_lines.specs.declared.line.Line.TheVariants.{Silent}
 use Rattle.shell_lines.specs.declared.setting.OptionKind.{OptionKind}
 use Rattle.shell_lines.specs.declared.setting.Setting.{Setting}
-use Rattle.shell_lines.specs.Reading.{Reading, WordKind, Value, word_from, options_from}
+use Rattle.shell_lines.specs.Reading.{Reading, Taken, Wrong, WordKind, Value, word_from, options_from}
 use Rattle.shell_lines.specs.Words.{WordAt}
 
 -- the end, which may set a last condition on what stands in front: where that fails, the line lacks a word; or a word of a
@@ -23,14 +23,17 @@ pub record Command : Type 0 where
   pub options : List (List ℕ)
   pub forms : List Form
 
+abbrev pub made_at : ℕ → Option Line → Result Line ℕ
+made_at end None = Err end
+made_at end (Some line) = Ok line
+
 abbrev pub end_from : ℕ → Option Line → List WordAt → Result Line ℕ
-end_from end None [] = Err end
-end_from end (Some line) [] = Ok line
+end_from end made [] = made_at end made
 end_from end made (word ∷ words) = Err word.at
 
 abbrev pub reading_then : {A : Type 0} → Reading A → (A → List WordAt → Result Line ℕ) → Result Line ℕ
-reading_then (Err at) next = Err at
-reading_then (Ok (value, words)) next = next value words
+reading_then (Wrong at) next = Err at
+reading_then (Taken value words) next = next value words
 
 -- the words of one form, for a command with these options
 abbrev pub form_from : ℕ → List (List ℕ) → Form → List WordAt → Result Line ℕ

@@ -6,8 +6,7 @@ use Rattle.shell_lines.specs.declared.line.LineStop.TheVariants as stops
 use Rattle.shell_lines.specs.declared.words.Words.{Words}
 use Rattle.shell_lines.specs.declared.words.PlacedWord.{PlacedWord}
 use Rattle.shell_lines.specs.Words.{WordAt, words_from}
-use Rattle.shell_lines.specs.Reading.{Reading}
-use Rattle.shell_lines.specs.declared.line.Line.{Line}
+use Rattle.shell_lines.specs.Reading.{Reading, Taken, Wrong}
 use Rattle.shell_lines.specs.declared.setting.Setting.{Setting}
 
 abbrev pub words_left : Words → List WordAt
@@ -22,15 +21,9 @@ placed word = record { at = word.at; text = word.text.now }
 
 -- a call reads so much of the words, want of memory apart, which says nothing
 abbrev pub Reads : {A : Type 0} → Result A LineStop → List WordAt → Reading A → Type 0
-Reads (Ok value) left reading = reading ≡ Ok (value, left)
-Reads (Err (stops.Bad at)) left reading = reading ≡ Err at
+Reads (Ok value) left reading = reading ≡ Taken value left
+Reads (Err (stops.Bad at)) left reading = reading ≡ Wrong at
 Reads (Err stops.NoMemory) left reading = Unit {0}
-
--- the same for a call that gives a name, of which a line is made
-abbrev pub NamesLine : Result (List ℕ) LineStop → ((List ℕ → Line) → Result Line ℕ) → Type 0
-NamesLine (Ok name) outcome = (line : List ℕ → Line) → outcome line ≡ Ok (line name)
-NamesLine (Err (stops.Bad at)) outcome = (line : List ℕ → Line) → outcome line ≡ Err at
-NamesLine (Err stops.NoMemory) outcome = Unit {0}
 
 -- the texts of words that stand elsewhere
 abbrev pub texts : List (Bor (List ℕ)) → List (List ℕ)

@@ -1,6 +1,6 @@
--- How the words of a line are read: a word of one kind, or options in any order. What is read comes with the words behind it,
--- or with AT, the offset of the first word that can't stand there; where a word is missing that is the line's length `end`.
-use Rattle.std.specs.Prelude.{ℕ, Bool, not, ◌&&◌, ◌||◌, ◌==◌, List, [], ◌∷◌, ◌++◌, if◌then◌else◌, Result, Ok, Err}
+-- How the words of a line are read: a word of one kind, or options in any order. What is taken comes with the words behind it. Else it is
+-- wrong at AT, the offset of the first word that can't stand there, or the line's length `end` where a word is missing.
+use Rattle.std.specs.Prelude.{ℕ, Bool, not, ◌&&◌, ◌||◌, ◌==◌, List, [], ◌∷◌, ◌++◌, if◌then◌else◌}
 use Rattle.std.specs.declared.option.Option.{Option}
 use Rattle.std.specs.declared.option.Option.TheVariants.{Some, None}
 use Rattle.std.specs.List.{list_any}
@@ -13,8 +13,9 @@ use Rattle.shell_lines.specs.declared.setting.Setting.{Setting}
 use Rattle.shell_lines.specs.Settings.{dash, key, kind_of, setting_of}
 use Rattle.shell_lines.specs.Words.{WordAt}
 
-abbrev pub Reading : Type 0 → Type 0
-Reading A = Result (A × List WordAt) ℕ
+pub data Reading (A : Type 0) : Type 0 where
+  Taken : (value : A) (words : List WordAt) → Reading A
+  Wrong : (at : ℕ) → Reading A
 
 -- ---- a word
 
@@ -48,11 +49,11 @@ value_of options a_property word = property_of word
 value_of options (the_word text) word = if bytes_eq word text then Some tt else None
 
 abbrev pub told_by : {A : Type 0} → ℕ → List WordAt → Option A → Reading A
-told_by at words None = Err at
-told_by at words (Some value) = Ok (value, words)
+told_by at words None = Wrong at
+told_by at words (Some value) = Taken value words
 
 abbrev pub word_from : ℕ → List (List ℕ) → (kind : WordKind) → List WordAt → Reading (Value kind)
-word_from end options kind [] = Err end
+word_from end options kind [] = Wrong end
 word_from end options kind (word ∷ words) = told_by word.at words (value_of options kind word.text)
 
 -- ---- options in any order, each at most once
@@ -85,24 +86,24 @@ set_then (Some setting) none next = next setting
 
 -- The options that stand next, behind those that made these settings, where the value of the option that `first` begins may be due.
 abbrev pub options_from : ℕ → List OptionKind → (first : Option (List ℕ)) → List Setting → List WordAt → Reading (List Setting)
-options_from end kinds None settings [] = Ok (settings, [])
-options_from end kinds (Some first) settings [] = Err end
+options_from end kinds None settings [] = Taken settings []
+options_from end kinds (Some first) settings [] = Wrong end
 options_from end kinds None settings (word ∷ words) =
     if begins_option kinds settings word.text then
         set_then (new_setting kinds settings word.text None)
         (options_from end kinds (Some word.text) settings words)
         (λ setting. options_from end kinds None (settings ++ (setting ∷ [])) words)
-    else Ok (settings, word ∷ words)
+    else Taken settings (word ∷ words)
 options_from end kinds (Some first) settings (word ∷ words) =
     set_then (new_setting kinds settings first (Some word.text))
-    (Err word.at)
+    (Wrong word.at)
     (λ setting. options_from end kinds None (settings ++ (setting ∷ [])) words)
 
 -- The value's word of the option that `first` begins.
 abbrev pub value_from : ℕ → List OptionKind → List Setting → (first : List ℕ) → List WordAt → Reading Setting
-value_from end kinds settings first [] = Err end
+value_from end kinds settings first [] = Wrong end
 value_from end kinds settings first (word ∷ words) = told_by word.at words (new_setting kinds settings first (Some word.text))
 
 -- What stands behind the word `first`, which begins an option.
 abbrev pub option_from : ℕ → List OptionKind → List Setting → (first : List ℕ) → List WordAt → Reading Setting
-option_from end kinds settings first words = set_then (new_setting kinds settings first None) (value_from end kinds settings first words) (λ setting. Ok (setting, words))
+option_from end kinds settings first words = set_then (new_setting kinds settings first None) (value_from end kinds settings first words) (λ setting. Taken setting words)

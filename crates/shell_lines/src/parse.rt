@@ -5,8 +5,8 @@ ghost use Rattle.shell_lines.specs.declared.line.Line.{Line};
 ghost use Rattle.shell_lines.specs.Sized.{HasRecordSize};
 ghost use Rattle.shell_lines.specs.Grammar.{Spells, line_of, is_comment, first_unprintable};
 ghost use Rattle.std.specs.Str.{bytes_eq};
-ghost use Rattle.shell_lines.specs.Left.{words_left, end_of, placed, texts, Reads, NamesLine};
-ghost use Rattle.shell_lines.specs.Commands.{commands, create, create_form, get_form, only_name, created};
+ghost use Rattle.shell_lines.specs.Left.{words_left, end_of, placed, texts, Reads};
+ghost use Rattle.shell_lines.specs.Commands.{commands, create, create_form, get_form, created};
 ghost use Rattle.shell_lines.specs.Forms.{line_from, form_from, end_from};
 ghost use Rattle.shell_lines.specs.Reading.{word_from, a_name, a_property, property_of};
 
@@ -64,17 +64,21 @@ fn first_unprintable(bytes: &[u8]) -> Option<usize>
     bytes.iter().position(|byte| !matches!(byte, b' '..=b'~'))
 }
 
-fn parse_command(alloc: Global, command: PlacedWord<'_>, words: Words<'_>) -> Result<Line, LineStop>
+fn parse_command(
+    alloc: Global,
+    command: PlacedWord<'_>,
+    mut words: Words<'_>,
+) -> Result<Line, LineStop>
     ensures { Spells result (line_from (end_of words.entry) commands (placed command.entry ∷ words_left words.entry)) }
 {
     if command.text == b"create".as_slice() {
         parse_create(alloc, words)
     } else if command.text == b"load-key".as_slice() {
-        let name = parse_only_name(alloc, &[b"-n", b"-L", b"-r", b"-a"], words)?;
-        Ok(Line::LoadKey { name })
+        let name = parse_name(alloc, &[b"-n", b"-L", b"-r", b"-a"], &mut words)?;
+        parse_end(Some(Line::LoadKey { name }), words)
     } else if command.text == b"unload-key".as_slice() {
-        let name = parse_only_name(alloc, &[b"-r", b"-a"], words)?;
-        Ok(Line::UnloadKey { name })
+        let name = parse_name(alloc, &[b"-r", b"-a"], &mut words)?;
+        parse_end(Some(Line::UnloadKey { name }), words)
     } else if command.text == b"get".as_slice() {
         parse_get(alloc, words)
     } else if command.text == b"list".as_slice() {
@@ -110,17 +114,6 @@ fn parse_get(alloc: Global, mut words: Words<'_>) -> Result<Line, LineStop>
     let prop = parse_property(&mut words)?;
     let name = parse_name(alloc, &[], &mut words)?;
     parse_end(Some(Line::Get { prop, name }), words)
-}
-
-/// The only word of a command with these options, a name.
-fn parse_only_name(alloc: Global, options: &[&[u8]], mut words: Words<'_>) -> Result<Word, LineStop>
-    ensures { NamesLine result (λ line. form_from (end_of words.entry) (texts options.now) (only_name line) (words_left words.entry)) }
-{
-    let name = parse_name(alloc, options, &mut words)?;
-    match words.next() {
-        None => Ok(name),
-        Some(word) => Err(word.wrong()),
-    }
 }
 
 /// The name that stands next, for a command with these options.

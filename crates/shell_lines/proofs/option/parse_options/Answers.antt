@@ -4,7 +4,7 @@ use Rattle.shell_lines.specs.declared.setting.Setting.{Setting}
 use Rattle.shell_lines.specs.Words.{WordAt}
 use Rattle.shell_lines.specs.Left.{words_left, end_of, placed}
 use Rattle.shell_lines.specs.Reading.{Reading, begins_option, option_from, options_from}
-use Rattle.shell_lines.proofs.OptionLemmas.{one_more, no_more, fewer_left, stop_passes, was_true}
+use Rattle.shell_lines.proofs.OptionLemmas.{one_more, no_more, fewer_left, stop_passes}
 use Rattle.shell_lines.proofs.option.parse_options.Goals as goal
 
 pub returns-in-Err-clause-reads : goal.returns-in-Err-clause-reads
@@ -14,7 +14,7 @@ returns-in-Err-clause-reads c =
     let rest : List WordAt = words_left c.next.new.self in
     let end : ℕ = end_of c.args.words.now in
     let shown : begins_option c.args.kinds.now settings word.text ≡ c.begins_option.result = sym (rw c.deref.ensures.value at c.begins_option.ensures) in
-    let begins : begins_option c.args.kinds.now settings word.text ≡ true = shown ∙ was_true c.begins_option.result c.if-not-begins_option.false in
+    let begins : begins_option c.args.kinds.now settings word.text ≡ true = shown ∙ c.if-not-begins_option.false in
     let here : end_of c.next.new.self ≡ end = c.in-Some.ensures.end ∙ c.loop-word.invariant.3 in
     let stand : words_left c.loop-word.words ≡ word ∷ rest = sym c.loop-word.invariant.1 ∙ c.in-Some.ensures.next in
     stop_passes c.in-Err.stop (words_left c.parse_option.new.words) (words_left c.loop-word.words)
@@ -40,7 +40,7 @@ loop-word-preserved c =
     let end : ℕ = end_of c.args.words.now in
     let left : List WordAt = words_left c.parse_option.new.words in
     let shown : begins_option c.args.kinds.now settings word.text ≡ c.begins_option.result = sym (rw c.deref.ensures.value at c.begins_option.ensures) in
-    let begins : begins_option c.args.kinds.now settings word.text ≡ true = shown ∙ was_true c.begins_option.result c.if-not-begins_option.false in
+    let begins : begins_option c.args.kinds.now settings word.text ≡ true = shown ∙ c.if-not-begins_option.false in
     let here : end_of c.next.new.self ≡ end = c.in-Some.ensures.end ∙ c.loop-word.invariant.3 in
     let stand : words_left c.loop-word.words ≡ word ∷ rest = sym c.loop-word.invariant.1 ∙ c.in-Some.ensures.next in
     let pushed : c.push.new.self.items ≡ settings ++ (c.in-Ok.setting ∷ []) = search rules in
