@@ -1,19 +1,18 @@
 -- A form is read as the table has it.
-use Rattle.std.proofs.Common.{◌≡◌, ◌≢◌, ◌⊎◌, ◌+◌, ◌≤◌, ℕ, suc, Option, Some, None, inl, inr, Bool, true, false, List, [], ◌∷◌, ◌++◌, length, replicate, Result, Ok, Err, refl, sym, ◌∙◌, ap, subst, arith}
+use Rattle.std.proofs.Common.{◌≡◌, ◌+◌, ◌≤◌, ℕ, Option, Some, None, inl, inr, true, false, List, [], ◌∷◌, length, replicate, refl, sym, ap, subst, arith}
 use Rattle.std.specs.List.{list_any}
 use Rattle.std.specs.Str.{bytes_eq}
-use Rattle.std.proofs.lemmas.List.{append-nil, length-replicate}
+use Rattle.std.proofs.lemmas.List.{length-replicate}
 use lib.Chars.{codes}
 use Rattle.encryption_roots.specs.declared.props.Prop.{Prop}
 use Rattle.encryption_roots.specs.declared.props.Prop.TheVariants.{KeyStatus, Encryption, EncryptionRoot, KeyFormat, KeyLocation, Pbkdf2Iters, RecordSize}
 use Rattle.shell_lines.specs.declared.line.Line.{Line}
-use Rattle.shell_lines.specs.declared.setting.Setting.{Setting}
 use Rattle.shell_lines.specs.Words.{WordAt}
 use Rattle.shell_lines.specs.Reading.{WordKind, a_name, a_property, the_word, Value, value_of, property_of}
 use Rattle.shell_lines.specs.Forms.{Form, end_as, word_then, options_then, made_at, form_from}
-use Rattle.shell_lines.specs.Language.{IsAmong, property_name, IsWord, Matches, IsMatch, Begins, texts_of}
+use Rattle.shell_lines.specs.Language.{IsAmong, property_name, IsWord, Matches, Begins, texts_of}
 use Rattle.shell_lines.proofs.FrontLemmas.{by_text}
-use Rattle.shell_lines.proofs.ReadLemmas.{by_bool, Has, Through, Stops, Lacks, IsRead, onto, stops_here, Front, front_of, no_word}
+use Rattle.shell_lines.proofs.ReadLemmas.{by_bool, Has, IsRead, onto, stops_here, Front, front_of, no_word}
 use Rattle.shell_lines.proofs.OptionRunLemmas.{can_stand, options_read, options_given}
 
 -- ---- words

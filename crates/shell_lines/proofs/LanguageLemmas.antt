@@ -1,5 +1,5 @@
 -- What `line_of` gives, by the language's table.
-use Rattle.std.proofs.Common.{◌⊎◌, ◌≡◌, ◌≢◌, eqb, ltb, not, ◌||◌, Option, Some, None, get_or, ℕ, ◌+◌, ◌<◌, ◌≤◌, inl, inr, true, false, List, [], ◌∷◌, ◌++◌, length, Result, Ok, Err, refl, ap, sym, ◌∙◌, arith, subst}
+use Rattle.std.proofs.Common.{◌⊎◌, ◌≡◌, ◌≢◌, eqb, ltb, not, Some, None, get_or, ℕ, ◌+◌, ◌<◌, inl, inr, true, false, List, [], ◌∷◌, ◌++◌, length, Result, Ok, Err, refl, ap, sym, ◌∙◌, arith, subst}
 use Rattle.std.proofs.lemmas.List.{append_assoc, append-nil}
 use Rattle.std.specs.List.{position_or_len}
 use Rattle.std.proofs.lemmas.List.Sums.{position_or_len_is}
@@ -11,9 +11,9 @@ use Rattle.shell_lines.specs.Words.{WordAt, words_of}
 use Rattle.shell_lines.specs.Forms.{Form, Command, forms_from, command_from, line_from}
 use Rattle.shell_lines.specs.Commands.{commands}
 use Rattle.shell_lines.specs.Grammar.{line_of, placed_of, is_comment, first_unprintable}
-use Rattle.shell_lines.specs.Language.{IsMatch, SomeMatch, Makes, CommandMatches, CommandMakes, IsWhole, IsLine, Begins, IsWrongWord, LacksWord, IsFirstWrong, IsPrintable, IsFirstUnprintable, IsComment, IsPlain, texts_of}
+use Rattle.shell_lines.specs.Language.{IsMatch, SomeMatch, Makes, CommandMatches, CommandMakes, IsWhole, IsLine, Begins, IsWrongWord, IsFirstWrong, IsPrintable, IsFirstUnprintable, IsComment, IsPlain, texts_of}
 use Rattle.shell_lines.proofs.FrontLemmas.{by_text}
-use Rattle.shell_lines.proofs.OutcomeLemmas.{IsMade, IsWrong, IsShort, Outcome, FormMakes, RiseFrom, form_outcome, better_outcome, outcome_as, places, texts_split}
+use Rattle.shell_lines.proofs.OutcomeLemmas.{IsWrong, Outcome, FormMakes, RiseFrom, form_outcome, better_outcome, outcome_as, places, texts_split}
 use Rattle.shell_lines.proofs.RunLemmas.{words_rise}
 
 -- ---- forms and commands

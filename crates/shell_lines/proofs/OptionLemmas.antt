@@ -1,5 +1,5 @@
 -- One option more.
-use Rattle.std.proofs.Common.{◌≡◌, ℕ, ◌≤◌, ◌<◌, Option, Some, None, Bool, true, false, not, List, [], ◌∷◌, ◌++◌, length, Err, refl, arith, ◌∙◌, ap}
+use Rattle.std.proofs.Common.{◌≡◌, ℕ, ◌≤◌, Option, Some, None, true, List, [], ◌∷◌, ◌++◌, length, Err, arith}
 use Rattle.shell_lines.specs.declared.setting.OptionKind.{OptionKind}
 use Rattle.shell_lines.specs.declared.setting.Setting.{Setting}
 use Rattle.shell_lines.specs.declared.line.LineStop.{LineStop}

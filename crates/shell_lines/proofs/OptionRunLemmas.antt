@@ -1,6 +1,6 @@
 -- Options in any order, each kind at most once, are read as the table has them.
-use Rattle.std.proofs.Common.{◌≡◌, ◌≢◌, ◌⊎◌, ◌||◌, ◌&&◌, not, ℕ, suc, ◌<◌, Option, Some, None, inl, inr, Bool, true, false, List, [], ◌∷◌, ◌++◌, length, get_or, Result, Ok, Err, refl, sym, ◌∙◌, ap, subst, arith}
-use Rattle.std.specs.List.{All, list_any}
+use Rattle.std.proofs.Common.{◌≡◌, ◌≢◌, ◌||◌, ◌&&◌, not, ℕ, Option, Some, None, inl, inr, Bool, true, false, List, [], ◌∷◌, ◌++◌, get_or, Err, refl, sym, ◌∙◌, ap, subst, arith}
+use Rattle.std.specs.List.{All}
 use Rattle.std.specs.Str.{bytes_eq}
 use Rattle.std.proofs.lemmas.List.{append_assoc, append-nil}
 use Rattle.std.proofs.lemmas.List.Elements.{All-head, All-tail, All-cons}
@@ -15,7 +15,7 @@ use Rattle.shell_lines.specs.Reading.{is_same, has_kind, is_set, begins_option, 
 use Rattle.shell_lines.specs.Forms.{made_at, reading_then}
 use Rattle.shell_lines.specs.Language.{Spelled, IsSpelled, words_in, option_words, settings_of, AreNew, NoneNext, HasOptions, Begins, texts_of}
 use Rattle.shell_lines.proofs.SettingLemmas.{setting_given, IsTold, setting_is, none_alone, Sample, sample, same_kind, same_itself}
-use Rattle.shell_lines.proofs.ReadLemmas.{by_bool, Reader, Has, Through, Stops, Lacks, IsRead, Leads, onto, stops_here, Front, front_of, no_word}
+use Rattle.shell_lines.proofs.ReadLemmas.{by_bool, Reader, Has, Stops, IsRead, onto, stops_here, Front, front_of}
 
 -- ---- one option
 
@@ -164,9 +164,10 @@ fill_up kinds Next follow (kind ∷ todo) settings known all =
     let joined : (settings ++ (s.setting ∷ [])) ++ later ≡ settings ++ (s.setting ∷ later) = append_assoc settings (s.setting ∷ []) later in
     subst (λ now. AreSet now kinds) (sym joined)
     (all (s.setting ∷ later) (All-cons (λ other. is_set (settings ++ (s.setting ∷ later)) other ≡ true) kind todo (set_by settings later s.setting kind s.kind_is)
-    (subst (λ now. AreSet now todo) joined more)))) in
-    (dash (kind_of s.setting) ∷ (words_in s.word ++ rest.0),
-    (rest.1.0, one_before kinds settings (λ now more. Next now rest.1.0 more) (dash (kind_of s.setting)) s.word s.setting rest.0 new rest.1.1)))
+    (subst (λ now. AreSet now todo) joined more)))) in (
+      dash (kind_of s.setting) ∷ (words_in s.word ++ rest.0),
+      (rest.1.0, one_before kinds settings (λ now more. Next now rest.1.0 more) (dash (kind_of s.setting)) s.word s.setting rest.0 new rest.1.1),
+    ))
 
 pub can_stand : (kinds : List OptionKind) (Next : List Setting → Option Line → List (List ℕ) → Type 0) (settings : List Setting) → CanFollow Next → Begins (Has (OptionsMake kinds Next settings)) []
 can_stand kinds Next settings follow = fill_up kinds Next follow kinds settings (each_of_them kinds) (λ later all. all)

@@ -5,7 +5,7 @@ use Rattle.shell_lines.specs.declared.line.Line.{Line}
 use Rattle.shell_lines.specs.Words.{WordAt}
 use Rattle.shell_lines.specs.Forms.{Form, made_at, form_from, better}
 use Rattle.shell_lines.specs.Language.{Matches, IsMatch, Begins, texts_of}
-use Rattle.shell_lines.proofs.ReadLemmas.{Has, Through, Stops, Lacks, IsRead}
+use Rattle.shell_lines.proofs.ReadLemmas.{Stops}
 use Rattle.shell_lines.proofs.FormLemmas.{form_read, form_given}
 
 -- words that are whole in a table, and the lines that they make

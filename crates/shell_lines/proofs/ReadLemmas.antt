@@ -1,5 +1,5 @@
 -- A reading of words goes through, or stops at a word whatever stands behind it, or lacks a word.
-use Rattle.std.proofs.Common.{◌≡◌, ◌⊎◌, ℕ, Option, inl, inr, Bool, true, false, List, [], ◌∷◌, ◌++◌, Result, Ok, Err, refl, ◌∙◌, ap}
+use Rattle.std.proofs.Common.{◌≡◌, ◌⊎◌, ℕ, Option, inl, inr, Bool, true, false, List, [], ◌∷◌, ◌++◌, Result, Err, refl, ◌∙◌, ap}
 use Rattle.shell_lines.specs.declared.line.Line.{Line}
 use Rattle.shell_lines.specs.Words.{WordAt}
 use Rattle.shell_lines.specs.Forms.{made_at}

@@ -1,5 +1,5 @@
 -- An option's words give just the setting that they spell, and each kind of option has words.
-use Rattle.std.proofs.Common.{◌≡◌, ◌≢◌, ◌⊎◌, if◌then◌else◌, ℕ, ◌^◌, Option, Some, None, inl, inr, Bool, true, false, eqb, List, [], ◌∷◌, ◌++◌, refl, sym, ◌∙◌, ap, subst}
+use Rattle.std.proofs.Common.{◌≡◌, ◌⊎◌, if◌then◌else◌, ℕ, ◌^◌, Option, Some, None, inl, inr, true, false, eqb, List, [], ◌∷◌, ◌++◌, refl, sym, ◌∙◌, ap, subst}
 use Rattle.std.specs.List.{list_any, AllByRecursion}
 use Rattle.std.specs.Fmt.{decimal, digits}
 use Rattle.std.specs.Str.{bytes_eq}
@@ -19,7 +19,7 @@ use Rattle.shell_lines.specs.declared.setting.Setting.{Setting}
 use Rattle.shell_lines.specs.declared.setting.Setting.TheVariants.{Encryption, KeyFormat, KeyLocation, RecordSize}
 use Rattle.shell_lines.specs.Settings.{dash, key, kind_of, suite_value, format_value, place_value, file_place, record_size_value, key_value, setting_of}
 use Rattle.shell_lines.specs.Reading.{is_same}
-use Rattle.shell_lines.specs.Language.{IsKeyValue, IsSpelled}
+use Rattle.shell_lines.specs.Language.{IsSpelled}
 use Rattle.shell_lines.proofs.FrontLemmas.{by_front, by_text}
 
 -- What is spelled is given.

@@ -1,9 +1,8 @@
 -- The record size of a line is in form.
-use Rattle.std.proofs.Common.{◌≡◌, ◌⊎◌, not, ◌||◌, is_some, IfSome, IfOk, eqb, ℕ, Option, Some, None, inl, inr, Bool, true, false, List, [], ◌∷◌, ◌++◌, length, Result, Ok, Err, refl, sym, ◌∙◌, ap, subst}
+use Rattle.std.proofs.Common.{◌≡◌, not, ◌||◌, is_some, IfOk, eqb, ℕ, Option, Some, None, inl, inr, List, [], ◌∷◌, ◌++◌, length, Result, Ok, Err, sym, subst}
 use Rattle.std.specs.List.{AllByRecursion, fold}
 use Rattle.encryption_roots.specs.Options.{no_options}
 use Rattle.encryption_roots.specs.RecordSize.{IsRecordSize}
-use Rattle.encryption_roots.specs.declared.props.Location.TheVariants.{Prompt, File}
 use Rattle.encryption_roots.specs.declared.props.Options.{Options}
 use Rattle.shell_lines.specs.declared.line.Line.{Line}
 use Rattle.shell_lines.specs.declared.line.Line.TheVariants.{Silent}
@@ -18,7 +17,7 @@ use Rattle.shell_lines.specs.Reading.{Value}
 use Rattle.shell_lines.specs.Forms.{Form, end_as, word_then, options_then, Command, line_from}
 use Rattle.shell_lines.specs.Commands.{created, commands}
 use Rattle.shell_lines.specs.Grammar.{Spells, line_of, placed_of, is_comment, printable_line, first_unprintable}
-use Rattle.shell_lines.specs.Language.{Spelled, IsSpelled, settings_of, AreNew, Matches, Makes, CommandMakes, IsWhole, IsLine, texts_of}
+use Rattle.shell_lines.specs.Language.{Spelled, IsSpelled, settings_of, AreNew, Matches, Makes, CommandMakes, IsLine, texts_of}
 use Rattle.shell_lines.specs.Sized.{SizedOptions, HasRecordSize}
 use Rattle.shell_lines.proofs.ReadLemmas.{by_bool}
 use Rattle.shell_lines.proofs.LanguageLemmas.{line_is, words_outcome}
@@ -58,9 +57,10 @@ created_sized : (name : List ℕ) (options : Options) → SizedOptions options �
 created_sized name options h = by_bool (not (is_some options.format) || is_some options.place) (λ e. rw e h) (λ e. rw e tt)
 
 commands_sized : AllByRecursion (λ command. AllByRecursion Sized command.forms) commands
-commands_sized =
-    (((λ settings all name. created_sized name (options_with settings) (fold_sized settings no_options tt all)), tt),
-    ((λ name. tt, tt), ((λ name. tt, tt), ((λ prop name. tt, tt), ((tt, tt), tt)))))
+commands_sized = (
+  ((λ settings all name. created_sized name (options_with settings) (fold_sized settings no_options tt all)), tt),
+  ((λ name. tt, tt), ((λ name. tt, tt), ((λ prop name. tt, tt), ((tt, tt), tt)))),
+)
 
 form_sized : (options : List (List ℕ)) (form : Form) (line : Line) (words : List (List ℕ)) → Sized form → Matches options form (Some line) words → HasRecordSize line
 form_sized options (end_as None) line words sized h = let none : Some line ≡ None = h.1 in cc

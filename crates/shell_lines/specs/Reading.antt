@@ -1,6 +1,6 @@
 -- How the words of a line are read: a word of one kind, or options in any order. What is taken comes with the words behind it. Else it is
 -- wrong at AT, the offset of the first word that can't stand there, or the line's length `end` where a word is missing.
-use Rattle.std.specs.Prelude.{ℕ, Bool, not, ◌&&◌, ◌||◌, ◌==◌, List, [], ◌∷◌, ◌++◌, if◌then◌else◌}
+use Rattle.std.specs.Prelude.{ℕ, Bool, not, ◌&&◌, List, [], ◌∷◌, ◌++◌, if◌then◌else◌}
 use Rattle.std.specs.declared.option.Option.{Option}
 use Rattle.std.specs.declared.option.Option.TheVariants.{Some, None}
 use Rattle.std.specs.List.{list_any}
@@ -90,9 +90,9 @@ options_from end kinds None settings [] = Taken settings []
 options_from end kinds (Some first) settings [] = Wrong end
 options_from end kinds None settings (word ∷ words) =
     if begins_option kinds settings word.text then
-        set_then (new_setting kinds settings word.text None)
-        (options_from end kinds (Some word.text) settings words)
-        (λ setting. options_from end kinds None (settings ++ (setting ∷ [])) words)
+    set_then (new_setting kinds settings word.text None)
+    (options_from end kinds (Some word.text) settings words)
+    (λ setting. options_from end kinds None (settings ++ (setting ∷ [])) words)
     else Taken settings (word ∷ words)
 options_from end kinds (Some first) settings (word ∷ words) =
     set_then (new_setting kinds settings first (Some word.text))

@@ -12,6 +12,5 @@ pub use laws::{bad_at_the_first_wrong_word, record_sizes_are_in_form, words_are_
 pub use line::{Line, LineStop, Word};
 pub use parse::parse_line;
 
-
 #[cfg(test)]
 mod tests;

@@ -72,7 +72,8 @@ fn path_of(opts: &Options) -> &[u8] {
 
 #[test]
 fn options_stand_in_any_order(rt: HostRuntime) -> Result<(), Fail> {
-    let bytes = b" create -o recordsize=512 -o keylocation=file:///k  -o encryption=aes-192-gcm -o keyformat=raw -n ";
+    let bytes =
+        b" create -o recordsize=512 -o keylocation=file:///k  -o encryption=aes-192-gcm -o keyformat=raw -n ";
     let Line::Create { name, opts } = parse_line(rt.alloc(), bytes, 0)? else {
         return Err("no create".into());
     };
@@ -90,7 +91,12 @@ fn each_command_has_a_line(rt: HostRuntime) -> Result<(), Fail> {
     assert!(rt; matches!(parse_line(alloc, b"", 0)?, Line::Silent));
     assert!(rt; matches!(parse_line(alloc, b"<\x00\xff", 2)?, Line::Silent));
     assert!(rt; matches!(parse_line(alloc, b"load-key -o", 0)?, Line::LoadKey { .. }));
-    assert!(rt; matches!(parse_line(alloc, b"unload-key -n", 0)?, Line::UnloadKey { .. }));
+    assert!(rt;
+        matches!(
+            parse_line(alloc, b"unload-key -n", 0)?,
+            Line::UnloadKey { .. }
+        )
+    );
     assert!(rt; matches!(parse_line(alloc, b"get encryption a", 0)?, Line::Get { .. }));
     assert!(rt; matches!(parse_line(alloc, b"  list ", 0)?, Line::List));
     bad_at_the_first_wrong_word();

@@ -1,9 +1,9 @@
-use Rattle.std.proofs.Common.{◌≡◌, ℕ, ◌≤◌, ◌<◌, Bool, true, false, not, List, ◌∷◌, ◌++◌, [], length, Ok, Err, refl, sym, ◌∙◌, ap, rules, arith}
+use Rattle.std.proofs.Common.{◌≡◌, ℕ, ◌≤◌, true, List, ◌∷◌, ◌++◌, [], length, refl, sym, ◌∙◌, ap, rules, arith}
 use Rattle.std.specs.declared.option.Option.TheVariants.{None}
 use Rattle.shell_lines.specs.declared.setting.Setting.{Setting}
 use Rattle.shell_lines.specs.Words.{WordAt}
 use Rattle.shell_lines.specs.Left.{words_left, end_of, placed}
-use Rattle.shell_lines.specs.Reading.{Reading, begins_option, option_from, options_from}
+use Rattle.shell_lines.specs.Reading.{begins_option, option_from, options_from}
 use Rattle.shell_lines.proofs.OptionLemmas.{one_more, no_more, fewer_left, stop_passes}
 use Rattle.shell_lines.proofs.option.parse_options.Goals as goal
 
@@ -44,7 +44,11 @@ loop-word-preserved c =
     let here : end_of c.next.new.self ≡ end = c.in-Some.ensures.end ∙ c.loop-word.invariant.3 in
     let stand : words_left c.loop-word.words ≡ word ∷ rest = sym c.loop-word.invariant.1 ∙ c.in-Some.ensures.next in
     let pushed : c.push.new.self.items ≡ settings ++ (c.in-Ok.setting ∷ []) = search rules in
-    let same : end_of c.parse_option.new.words ≡ end = c.in-Ok.ensures.end ∙ here in
-    (c.loop-word.invariant.0 ∙ ap (options_from end c.args.kinds.now None settings) stand
-    ∙ one_more end c.args.kinds.now settings word rest c.in-Ok.setting left begins (rw (here, c.deref-in-Some.ensures.value) at c.in-Ok.ensures.reads)
-    ∙ ap (λ (now : List Setting). options_from end c.args.kinds.now None now left) (sym pushed), refl, same, same)
+    let same : end_of c.parse_option.new.words ≡ end = c.in-Ok.ensures.end ∙ here in (
+      c.loop-word.invariant.0 ∙ ap (options_from end c.args.kinds.now None settings) stand
+          ∙ one_more end c.args.kinds.now settings word rest c.in-Ok.setting left begins (rw (here, c.deref-in-Some.ensures.value) at c.in-Ok.ensures.reads)
+          ∙ ap (λ (now : List Setting). options_from end c.args.kinds.now None now left) (sym pushed),
+      refl,
+      same,
+      same,
+    )

@@ -1,14 +1,12 @@
-use Rattle.std.proofs.Common.{◌≡◌, ◌∷◌, List, length, false, Result, Ok, Err, None, refl, sym, ◌∙◌, subst, rules}
-use Rattle.shell_lines.specs.declared.line.LineStop.{LineStop}
+use Rattle.std.proofs.Common.{◌≡◌, ◌∷◌, length, false, None, sym, ◌∙◌}
 use Rattle.shell_lines.specs.Words.{words_of}
-use Rattle.shell_lines.specs.Grammar.{Spells, line_of, first_unprintable, is_comment}
+use Rattle.shell_lines.specs.Grammar.{line_of, first_unprintable, is_comment}
 use Rattle.shell_lines.specs.Left.{words_left, end_of, placed}
 use Rattle.shell_lines.specs.Forms.{line_from}
 use Rattle.shell_lines.specs.Commands.{commands}
 use Rattle.shell_lines.proofs.LanguageLemmas.{whole_line}
 use Rattle.shell_lines.proofs.SizeLemmas.{result_sized}
 use Rattle.shell_lines.proofs.parse.parse_line.Goals as goal
-
 
 pub returns-clause-spells : goal.returns-clause-spells
 returns-clause-spells c =
