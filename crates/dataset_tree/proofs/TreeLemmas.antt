@@ -168,6 +168,51 @@ ids_find t tree k d within =
     found_at (λ (row : Row). row.id == id) t.rows k d within (same id id refl)
     (λ j lower. let before : (get_or t.rows j d).id < id = tree.rising j k d lower within in other (get_or t.rows j d).id id (λ e. omega arith))
 
+-- what is found stands somewhere, and passes the test
+find_place : {X : Type 0} (test : X → Bool) (xs : List X) (x : X) → find test xs ≡ Some x → (k : ℕ) × (k < length xs) × ((d : X) → get_or xs k d ≡ x) × (test x ≡ true)
+find_place test [] x found = absurd (cc)
+find_place {X = X} test (first ∷ xs) x found =
+    (elim (test first) as (λ b. test first ≡ b → cond b (Some first) (find test xs) ≡ Some x
+    → (k : ℕ) × (k < suc (length xs)) × ((d : X) → get_or (first ∷ xs) k d ≡ x) × (test x ≡ true)) [
+      | true ↦ (λ passes here.
+          let same : first ≡ x = cc in
+          (0, omega arith, (λ d. same), subst (λ (y : X). test y ≡ true) same passes))
+      | false ↦ (λ fails behind. let rest = find_place test xs x behind in (suc rest.0, omega (arith, rest.1), rest.2, rest.3))
+    ]) refl found
+
+-- a row that is found by its name is found by its id
+pub found_by_its_id : (t : Datasets) (test : Row → Bool) (row : Row) → IsTree t → find test t.rows ≡ Some row → row_of row.id t.rows ≡ Some row
+found_by_its_id t test row tree found =
+    let place = find_place test t.rows row found in
+    subst (λ (r : Row). row_of r.id t.rows ≡ Some r) (place.2 row) (ids_find t tree place.0 row place.1)
+
+pub found_by_name : (t : Datasets) (name : List ℕ) (row : Row) → row_named name t.rows ≡ Some row → row.name ≡ name
+found_by_name t name row found =
+    let place = find_place (λ (r : Row). bytes_eq r.name name) t.rows row found in
+    (bytes_eq-Decides row.name name).0 place.3
+
+row_with_id : (found : Option Row) (id : ℕ) → option_map (λ row. row.id) found ≡ Some id → (row : Row) × (found ≡ Some row) × (row.id ≡ id)
+row_with_id None id h = absurd (cc)
+row_with_id (Some row) id h = (row, refl, let same : row.id ≡ id = cc in same)
+
+no_row_0 : (t : Datasets) → IsTree t → row_of 0 t.rows ≡ None
+no_row_0 t tree = found_nowhere (λ (row : Row). row.id == 0) t.rows (λ k d within. let positive = tree.origins k d within in other (get_or t.rows k d).id 0 (λ e. omega arith))
+
+-- the row of the parent has the parent's name, and there is none above a name of one component
+parent_by_name : (t : Datasets) → IsTree t → (above : Option (List ℕ)) (parent : ℕ) → parent_in t.rows above ≡ Some parent
+    → option_map (λ row. row.name) (row_of parent t.rows) ≡ above
+parent_by_name t tree None parent found =
+    let zeroth : 0 ≡ parent = cc in
+    ap (λ (row : Option Row). option_map (λ (r : Row). r.name) row) (subst (λ (id : ℕ). row_of id t.rows ≡ None) zeroth (no_row_0 t tree))
+parent_by_name t tree (Some above) parent found =
+    let row = row_with_id (row_named above t.rows) parent found in
+    let there : row_of parent t.rows ≡ Some row.0 = subst (λ (id : ℕ). row_of id t.rows ≡ Some row.0) row.2 (found_by_its_id t (λ (r : Row). bytes_eq r.name above) row.0 tree row.1) in
+    ap (λ (r : Option Row). option_map (λ (x : Row). x.name) r) there ∙ ap (λ (n : List ℕ). Some n) (found_by_name t above row.0 row.1)
+
+pub parents_have_names : (t : Datasets) → IsTree t → All (λ row. option_map (λ parent. parent.name) (row_of row.parent t.rows) ≡ parent_name row.name) t.rows
+parents_have_names t tree k d within =
+    parent_by_name t tree (parent_name (get_or t.rows k d).name) (get_or t.rows k d).parent (tree.parents k d within)
+
 -- ---- a row by its place
 
 passed : (a b : ℕ) → nat_lt a b ≡ true → a < b

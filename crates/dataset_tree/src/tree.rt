@@ -161,6 +161,8 @@ impl Tree {
 
 ghost use Rattle.std.specs.Prelude.{◌≤◌, Some, length};
 ghost use Rattle.std.specs.List.{All, AllPairs, AllWithin};
+ghost use Rattle.std.specs.Option.{option_map};
+ghost use Rattle.dataset_tree.specs.SetName.{parent_name};
 ghost use Rattle.dataset_tree.specs.Tree.{Datasets, IsTree, row_named, id_named as id_by_name, row_of as row_by_id, is_parent as is_a_parent};
 
 fn id_in(rows: &[Row], name: &[u8]) -> Option<u32>
@@ -198,8 +200,11 @@ fn is_parent_in(rows: &[Row], id: u32) -> bool
     rows.iter().any(|row| row.parent == id)
 }
 
-/// In a tree each dataset is found by its name, and by its id: a law, which does nothing.
+/// In a tree each dataset is found by its name, and by its id, and its parent has the name that is its own without the
+/// last component: a law, which does nothing.
 pub fn names_find_their_rows()
     ensures names { (t : Datasets) → IsTree t → All (λ row. row_named row.name t.rows ≡ Some row) t.rows }
     ensures ids { (t : Datasets) → IsTree t → All (λ row. row_by_id row.id t.rows ≡ Some row) t.rows }
+    ensures parents { (t : Datasets) → IsTree t
+        → All (λ row. option_map (λ parent. parent.name) (row_by_id row.parent t.rows) ≡ parent_name row.name) t.rows }
 {}
