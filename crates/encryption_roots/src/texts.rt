@@ -141,7 +141,7 @@ impl PropText {
 }
 
 /// Key material as it was fetched, in no form yet: contracts see its bytes.
-#[derive(Debug, Drop)]
+#[derive(Drop)]
 pub struct Material {
     bytes: Vec<u8>,
 }
