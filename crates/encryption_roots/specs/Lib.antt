@@ -1,3 +1,4 @@
+pub mod Printable
 pub mod PathText
 pub mod Options
 pub mod Props

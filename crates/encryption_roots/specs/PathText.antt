@@ -3,19 +3,16 @@ use Rattle.std.specs.Prelude.{ℕ, Bool, false, ◌&&◌, ◌==◌, nat_le, List
 use Rattle.std.specs.List.{list_all}
 use Rattle.std.specs.declared.option.Option.{Option}
 use Rattle.std.specs.declared.option.Option.TheVariants.{Some, None}
-
--- a printable ASCII byte or a space
-abbrev pub is_printable : ℕ → Bool
-is_printable b = nat_le 32 b && nat_le b 126
+use Rattle.encryption_roots.specs.Printable.{stands_in_word}
 
 -- `/`
 abbrev pub begins_with_slash : List ℕ → Bool
 begins_with_slash [] = false
-begins_with_slash (b ∷ bs) = b == 47
+begins_with_slash (b ∷ bs) = b == 0x2f
 
--- 1 to 1024 printable bytes, the first `/`
+-- 1 to 1024 bytes of a word, the first `/`
 abbrev pub is_path : List ℕ → Bool
-is_path text = nat_le (length text) 1024 && begins_with_slash text && list_all is_printable text
+is_path text = nat_le (length text) 1024 && begins_with_slash text && list_all stands_in_word text
 
 -- the path that a text spells, if it is one
 abbrev pub path_of : List ℕ → Option (List ℕ)

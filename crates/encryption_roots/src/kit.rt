@@ -1,11 +1,11 @@
-// What a line has fetched for its command.
+// What a line has fetched for its command. None of it has `Debug`, so that no key is printed.
 ghost use Rattle.std.specs.Prelude.{◌≡◌, IfOk};
 
 use crate::texts::Material;
 use dataset_tree::NoMemory;
 
 /// Key material that a command asked for.
-#[derive(Debug, Drop)]
+#[derive(Drop)]
 pub enum Fetched {
     /// The command asked for none.
     NotAsked,
@@ -31,7 +31,7 @@ impl Fetched {
 }
 
 /// The random bytes that a command asked for.
-#[derive(Clone, Copy, Debug, PartialEq, Eq)]
+#[derive(Clone, Copy, PartialEq, Eq)]
 pub enum SeedGot {
     /// The command asked for none.
     NotAsked,
@@ -41,7 +41,7 @@ pub enum SeedGot {
 }
 
 /// What a line has fetched for its command.
-#[derive(Debug, Drop)]
+#[derive(Drop)]
 pub struct LineKit {
     /// The material of the present key.
     pub old_key: Fetched,

@@ -29,10 +29,10 @@ fn add_clone(alloc: Global, tree: &mut Tree, name: &str, origin: u32) -> Result<
 #[test]
 fn paths_are_absolute_and_have_at_most_1024_bytes(rt: HostRuntime) -> Result<(), Fail> {
     let alloc = rt.alloc();
-    let path = PathText::parse(alloc, b"/my keys/k~")?.ok_or("no path")?;
-    assert_eq!(rt; path.copy()?.as_str(), "/my keys/k~");
-    assert_eq!(rt; path.as_bytes(), b"/my keys/k~".as_slice());
-    for text in ["", "k", "k/", "/\u{7f}", "/\t", "/\u{e9}"] {
+    let path = PathText::parse(alloc, b"/my-keys/!k~")?.ok_or("no path")?;
+    assert_eq!(rt; path.copy()?.as_str(), "/my-keys/!k~");
+    assert_eq!(rt; path.as_bytes(), b"/my-keys/!k~".as_slice());
+    for text in ["", "k", "k/", "/my keys", "/\u{7f}", "/\t", "/\u{e9}"] {
         assert!(rt;
             PathText::parse(alloc, text.as_bytes())?.is_none(),
             "at {text:?}"
@@ -157,7 +157,7 @@ fn kits_and_values_are_copied(rt: HostRuntime) -> Result<(), Fail> {
         return Err("no material".into());
     };
     assert_eq!(rt; material.as_bytes(), [1, 2].as_slice());
-    assert_eq!(rt; copied.seed, SeedGot::Got([7; 32]));
+    assert!(rt; copied.seed == SeedGot::Got([7; 32]));
     let text = PropText::new(vec![in alloc; b'-']?);
     assert_eq!(rt; text.copy()?.as_bytes(), b"-".as_slice());
     Ok(())

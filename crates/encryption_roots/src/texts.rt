@@ -1,7 +1,8 @@
 // Small texts over bytes.
 ghost use Rattle.std.specs.Prelude.{◌≡◌, IfOk, true};
 ghost use Rattle.std.specs.List.{list_all};
-ghost use Rattle.encryption_roots.specs.PathText.{is_printable, begins_with_slash, is_path, path_of};
+ghost use Rattle.encryption_roots.specs.Printable.{stands_in_word};
+ghost use Rattle.encryption_roots.specs.PathText.{begins_with_slash, is_path, path_of};
 
 use dataset_tree::NoMemory;
 use std::alloc::Global;
@@ -29,7 +30,7 @@ impl Model for PathText {
 }
 
 impl PathText {
-    /// The path that this text spells, `None` exactly where it isn't one: 1 to 1024 printable ASCII bytes, the first `/`.
+    /// The path that this text spells, `None` exactly where it isn't one: 1 to 1024 bytes from `!` to `~`, the first `/`.
     pub fn parse(alloc: Global, bytes: &[u8]) -> Result<Option<PathText>, NoMemory>
         ensures { IfOk result (λ path. path ≡ path_of bytes.now) }
     {
@@ -68,7 +69,7 @@ impl PathText {
 fn is_path(bytes: &[u8]) -> bool
     ensures { result ≡ is_path bytes.now }
 {
-    bytes.len() <= MAX_PATH_LEN && begins_with_slash(bytes) && is_all_printable(bytes)
+    bytes.len() <= MAX_PATH_LEN && begins_with_slash(bytes) && is_word(bytes)
 }
 
 fn begins_with_slash(bytes: &[u8]) -> bool
@@ -77,16 +78,17 @@ fn begins_with_slash(bytes: &[u8]) -> bool
     matches!(bytes, [b'/', ..])
 }
 
-fn is_all_printable(bytes: &[u8]) -> bool
-    ensures { result ≡ list_all is_printable bytes.now }
+/// Whether each byte may stand in a word.
+fn is_word(bytes: &[u8]) -> bool
+    ensures { result ≡ list_all stands_in_word bytes.now }
 {
-    bytes.iter().all(|byte| is_printable(*byte))
+    bytes.iter().all(|byte| stands_in_word(*byte))
 }
 
-fn is_printable(byte: u8) -> bool
-    ensures { result ≡ is_printable byte }
+fn stands_in_word(byte: u8) -> bool
+    ensures { result ≡ stands_in_word byte }
 {
-    matches!(byte, b' '..=b'~')
+    matches!(byte, b'!'..=b'~')
 }
 
 /// These bytes as text.
@@ -139,7 +141,7 @@ impl PropText {
 }
 
 /// Key material as it was fetched, in no form yet: contracts see its bytes.
-#[derive(Debug, Drop)]
+#[derive(Drop)]
 pub struct Material {
     bytes: Vec<u8>,
 }

@@ -1,5 +1,5 @@
 -- A create in its three cases, a root, an heir of its parent's key, and a plain dataset, keeps a state sound.
-use Rattle.std.proofs.Common.{◌≡◌, ◌≢◌, ℕ, suc, ◌+◌, ◌<◌, ◌≤◌, Bool, true, false, cond, ◌==◌, List, [], ◌∷◌, map, Option, Some, None, IfSome, is_some, refl, ap, sym, ◌∙◌, arith, subst, if◌then◌else◌}
+use Rattle.std.proofs.Common.{◌≡◌, ◌≢◌, ℕ, suc, ◌+◌, ◌<◌, Bool, true, false, cond, ◌==◌, List, [], ◌∷◌, map, Option, Some, None, IfSome, is_some, is_none, refl, ap, sym, ◌∙◌, arith, subst, if◌then◌else◌}
 use Rattle.std.proofs.lemmas.Bool.Decides.{nat_tests}
 use Rattle.std.proofs.lemmas.List.Elements.{All-from_recursion, recursion_from_All, All-head}
 use Rattle.std.specs.Prelude.{unwrap_or}
@@ -10,17 +10,15 @@ use Rattle.dataset_tree.specs.declared.kinds.Kind.TheVariants.{Plain as PlainKin
 use Rattle.dataset_tree.specs.declared.tree.Row.{Row}
 use Rattle.dataset_tree.specs.SetName.{parent_name}
 use Rattle.dataset_tree.specs.Tree.{row_of, row_named, parent_in}
-use Rattle.dataset_tree.proofs.TreeLemmas.{parent_is_given}
 use Rattle.encryption_roots.specs.declared.props.Props.{Props}
 use Rattle.encryption_roots.specs.declared.props.Options.{Options}
 use Rattle.encryption_roots.specs.ById.{IsRisingById, at_id, with_id}
 use Rattle.encryption_roots.proofs.ByIdLemmas.{IsRisingById-with_id, at_id-with_id, at_id-with_id_other}
 use Rattle.encryption_roots.proofs.OwnerLemmas.{owner_by_walking, owner_of_root, owner_of_other}
-use Rattle.key_machine.specs.Plain.{Plain, Stored, Ciphers, owner_of}
-use Rattle.key_machine.specs.Needs.{is_encrypted_kind, is_encrypted_row, parent_row}
+use Rattle.key_machine.specs.Plain.{Plain, Stored, Ciphers, owner_of, is_encrypted_kind, is_encrypted_row}
+use Rattle.key_machine.specs.Create.{parent_row, parent_key, new_props, new_stored}
 use Rattle.key_machine.specs.Sound.{Sound, SoundKeys}
-use Rattle.key_machine.specs.Step.{new_props, new_stored}
-use Rattle.key_machine.specs.Told.{Told, parent_key}
+use Rattle.key_machine.specs.Told.{Told}
 use Rattle.key_machine.specs.Fair.{AllOpen}
 use Rattle.key_machine.proofs.CreateLawsGrown.{grown, Grows, slots_kept, users_kept, grown_tree, new_found, encrypted_apart, family_apart, owner_stays, was_given}
 use Rattle.key_machine.proofs.CreateLawsKeys.{keys_kept}
@@ -61,9 +59,9 @@ all_with P id value (entry ∷ entries) all one =
 
 -- ---- the parent
 
-within_unless : (found : Option ℕ) (last : ℕ) → ((parent : ℕ) → found ≡ Some parent → parent ≤ last) → unwrap_or found 0 ≤ last
-within_unless None last within = omega arith
-within_unless (Some parent) last within = within parent refl
+parent_there : (found : Option ℕ) → is_none found ≡ false → found ≡ Some (unwrap_or found 0)
+parent_there None known = absurd (cc)
+parent_there (Some parent) known = refl
 
 found_has : {X : Type 0} (P : X → Type 0) (test : X → Bool) (xs : List X) (x : X) → AllByRecursion P xs → find test xs ≡ Some x → P x
 found_has P test [] x all found = cc
@@ -119,12 +117,14 @@ not_true false never = refl
 
 -- ---- the three cases
 
-module _ (c : Ciphers) (p : Plain) (name : List ℕ) (opts : Options) (told : Told) (sound : Sound c p) where
+module _ (c : Ciphers) (p : Plain) (name : List ℕ) (opts : Options) (told : Told) (sound : Sound c p) (new : is_some (row_named name p.tree.rows) ≡ false)
+    (known : is_none (parent_in p.tree.rows (parent_name name)) ≡ false) where
   grows : (root encrypted : Bool) → Grows p (new_row p name encrypted) (roots_with p opts told root) (records_with p opts told encrypted) (loaded_with p told root)
   grows root encrypted = record {
     tree = sound.tree.tree;
     id = refl;
-    parent = within_unless (parent_in p.tree.rows (parent_name name)) p.tree.last (λ parent found. parent_is_given p.tree (parent_name name) parent sound.tree.tree found);
+    new = new;
+    parent = parent_there (parent_in p.tree.rows (parent_name name)) known;
     origin = refl;
     roots_kept = λ id apart. kept_unless root (p.tree.last + 1) id (new_props opts told) p.roots apart;
     wrapped_kept = λ id apart. kept_unless encrypted (p.tree.last + 1) id (new_stored (p.tree.last + 1) opts told) p.wrapped apart;

@@ -1,13 +1,14 @@
 -- A state that grows by one dataset: what is known of the others, and the slots and users, which stay sound.
-use Rattle.std.proofs.Common.{◌≡◌, ◌≢◌, ◌⊎◌, ℕ, ◌+◌, ◌<◌, ◌≤◌, true, List, [], ◌∷◌, ◌++◌, Option, Some, None, is_some, refl, ap, sym, ◌∙◌, arith}
+use Rattle.std.proofs.Common.{◌≡◌, ◌≢◌, ◌⊎◌, ℕ, ◌+◌, ◌<◌, ◌≤◌, true, false, List, [], ◌∷◌, ◌++◌, length, length-append, Option, Some, None, is_some, refl, ap, sym, ◌∙◌, arith}
 use Rattle.std.proofs.lemmas.List.Elements.{recursion_from_All}
 use Rattle.dataset_tree.specs.declared.tree.Row.{Row}
-use Rattle.dataset_tree.specs.Tree.{IsTree, row_of}
+use Rattle.dataset_tree.specs.SetName.{parent_name}
+use Rattle.dataset_tree.specs.Tree.{IsTree, row_of, row_named, parent_in}
 use Rattle.dataset_tree.proofs.TreeLemmas.{IsTree-push}
 use Rattle.encryption_roots.specs.declared.props.Props.{Props}
 use Rattle.encryption_roots.specs.ById.{at_id}
 use Rattle.encryption_roots.specs.Owners.{family}
-use Rattle.encryption_roots.proofs.OwnerLemmas.{Falls, family_by_walking}
+use Rattle.encryption_roots.proofs.OwnerLemmas.{Falls, falls_in_tree, up_to, at_most_all, enough_steps, enough_origins, family_by_walking}
 use Rattle.key_machine.specs.Plain.{Plain, Stored, owner_of, has_key, has_key_of}
 use Rattle.key_machine.specs.Sound.{IsEncrypted, SoundUsers, SoundSlots}
 use Rattle.key_machine.proofs.CreateLawsRows.{AreGiven, row_is_given, row_of_other, row_of_new, owner_kept, owner_is_given, family_kept, family_is_given}
@@ -26,7 +27,8 @@ users_kept p row roots wrapped loaded sound = record { one = sound.one; mapped =
 pub record Grows (p : Plain) (row : Row) (roots : List (ℕ × Props)) (wrapped : List (ℕ × Stored)) (loaded : List (ℕ × List ℕ)) : Type 0 where
   pub tree : IsTree p.tree
   pub id : row.id ≡ p.tree.last + 1
-  pub parent : row.parent ≤ p.tree.last
+  pub new : is_some (row_named row.name p.tree.rows) ≡ false
+  pub parent : parent_in p.tree.rows (parent_name row.name) ≡ Some row.parent
   pub origin : row.origin ≡ 0
   pub roots_kept : (id : ℕ) → id ≢ row.id → at_id id roots ≡ at_id id p.roots
   pub wrapped_kept : (id : ℕ) → id ≢ row.id → at_id id wrapped ≡ at_id id p.wrapped
@@ -37,7 +39,7 @@ new_or_other id new = grind arith
 
 module _ (p : Plain) (row : Row) (roots : List (ℕ × Props)) (wrapped : List (ℕ × Stored)) (loaded : List (ℕ × List ℕ)) (g : Grows p row roots wrapped loaded) where
   falls : Falls p.tree.rows
-  falls = recursion_from_All (λ (r : Row). (r.parent < r.id) × (r.origin < r.id)) p.tree.rows g.tree.below
+  falls = falls_in_tree p.tree g.tree
 
   given : AreGiven p.tree.last p.tree.rows
   given = recursion_from_All (λ (r : Row). r.id ≤ p.tree.last) p.tree.rows g.tree.given
@@ -46,7 +48,7 @@ module _ (p : Plain) (row : Row) (roots : List (ℕ × Props)) (wrapped : List (
   above = omega (arith, g.id)
 
   pub grown_tree : IsTree (grown p row roots wrapped loaded).tree
-  grown_tree = IsTree-push p.tree row g.tree g.id g.parent (omega (arith, g.origin))
+  grown_tree = IsTree-push p.tree row g.tree g.id g.new g.parent (omega (arith, g.origin))
 
   pub new_found : row_of row.id (p.tree.rows ++ row ∷ []) ≡ Some row
   new_found = row_of_new p.tree.last p.tree.rows row given above
@@ -67,18 +69,26 @@ module _ (p : Plain) (row : Row) (roots : List (ℕ × Props)) (wrapped : List (
   encrypted_before id apart encrypted = (encrypted.0, sym (other_found id apart) ∙ encrypted.1, encrypted.2)
 
   pub owner_stays : (id : ℕ) → id ≢ row.id → owner_of (grown p row roots wrapped loaded) id ≡ owner_of p id
-  owner_stays id apart = owner_kept p.tree.last p.tree.rows row p.roots roots falls given above g.roots_kept id id apart
+  owner_stays id apart =
+      let few : up_to id p.tree.rows ≤ length p.tree.rows = at_most_all id p.tree.rows in
+      let steps : ℕ = length (p.tree.rows ++ row ∷ []) in
+      owner_kept p.tree.last p.tree.rows row p.roots roots falls given above g.roots_kept steps id apart
+      ∙ enough_steps p.tree.rows p.roots falls steps (length p.tree.rows) id (omega (arith, few, length-append p.tree.rows (row ∷ []))) few
 
   pub owner_apart : (id root : ℕ) → owner_of p id ≡ Some root → root ≢ row.id
-  owner_apart id root owner equal = let within : root ≤ p.tree.last = owner_is_given p.tree.last p.tree.rows p.roots given id id root owner in omega (arith, above)
+  owner_apart id root owner equal = let within : root ≤ p.tree.last = owner_is_given p.tree.last p.tree.rows p.roots given (length p.tree.rows) id root owner in omega (arith, above)
 
   pub family_stays : (id : ℕ) → id ≢ row.id → family (p.tree.rows ++ row ∷ []) id ≡ family p.tree.rows id
-  family_stays id apart = family_kept p.tree.last p.tree.rows row falls given above id id apart
+  family_stays id apart =
+      let few : up_to id p.tree.rows ≤ length p.tree.rows = at_most_all id p.tree.rows in
+      let steps : ℕ = length (p.tree.rows ++ row ∷ []) in
+      family_kept p.tree.last p.tree.rows row falls given above steps id apart
+      ∙ enough_origins p.tree.rows falls steps (length p.tree.rows) id (omega (arith, few, length-append p.tree.rows (row ∷ []))) few
 
   pub family_apart : (id : ℕ) → IsEncrypted p id → family p.tree.rows id ≢ row.id
   family_apart id encrypted equal =
       let there : id ≤ p.tree.last = row_is_given id p.tree.last p.tree.rows encrypted.0 given encrypted.1 in
-      let within : family p.tree.rows id ≤ p.tree.last = family_is_given p.tree.last p.tree.rows falls id id there in
+      let within : family p.tree.rows id ≤ p.tree.last = family_is_given p.tree.last p.tree.rows falls (length p.tree.rows) id there in
       omega (arith, above)
 
   -- the new dataset is its own family

@@ -1,51 +1,74 @@
--- A create step keeps a state sound, where what is told is fair.
-use Rattle.std.proofs.Common.{◌≡◌, ⊎_elim, ℕ, ◌+◌, Bool, true, false, not, cond, ◌&&◌, ◌||◌, List, [], ◌∷◌, Option, Some, None, is_some, refl, ap, sym, ◌∙◌, if◌then◌else◌}
+-- A create that its state accepts keeps it sound, where what is told is genuine.
+use Rattle.std.proofs.Common.{◌≡◌, ⊎_elim, ℕ, ◌+◌, ◌<◌, Bool, true, false, not, cond, ◌&&◌, ◌||◌, nat_le, List, [], ◌∷◌, length, Some, None, is_some, is_none, refl, ap, ◌∙◌, if◌then◌else◌, arith}
+use Rattle.std.proofs.lemmas.Bool.{cases_Bool}
+use Rattle.std.proofs.lemmas.Bool.Decides.{nat_tests}
 use Rattle.std.specs.Prelude.{unwrap_or}
 use Rattle.dataset_tree.specs.declared.refusal.Refusal.{Refusal}
+use Rattle.dataset_tree.specs.SetName.{parent_name}
+use Rattle.dataset_tree.specs.Tree.{row_named, parent_in}
 use Rattle.encryption_roots.specs.declared.props.Options.{Options}
 use Rattle.encryption_roots.specs.declared.command.KeyCmd.TheVariants as commands
 use Rattle.encryption_roots.specs.ById.{at_id}
-use Rattle.key_machine.specs.Plain.{Plain, Ciphers}
-use Rattle.key_machine.specs.Needs.{is_encrypted_row, is_below_encrypted, parent_row, makes_root}
-use Rattle.key_machine.specs.Refusals.{refusal_of}
+use Rattle.key_machine.specs.Plain.{Plain, Ciphers, is_encrypted_row}
+use Rattle.key_machine.specs.Create.{is_below_encrypted, parent_row, parent_key, makes_root, makes_encrypted, are_bad_options, are_bad_iterations, create_cases, created}
+use Rattle.key_machine.specs.Refusals.{first_of}
+use Rattle.key_machine.specs.Step.{refusal_of}
 use Rattle.key_machine.specs.Sound.{Sound}
-use Rattle.key_machine.specs.Step.{Stepped, Refused, Made, created, step, carried_out, unless_refused, unless_faulty, unless_wrong}
-use Rattle.key_machine.specs.Told.{Told, parent_key}
-use Rattle.key_machine.specs.Fair.{IsFair, IsGenuine}
+use Rattle.key_machine.specs.Told.{Told}
+use Rattle.key_machine.specs.Fair.{IsGenuine}
 use Rattle.key_machine.proofs.CreateLawsCases.{created_with, record_opens, plain_keeps, root_keeps, heir_keeps}
 
-module _ (c : Ciphers) (p : Plain) (name : List ℕ) (opts : Options) (told : Told) (sound : Sound c p) where
+-- ---- what the state doesn't refuse
+
+abbrev NoneHolds : List (Bool × Refusal) → Type 0
+NoneHolds [] = Unit {0}
+NoneHolds (case ∷ cases) = (case.0 ≡ false) × NoneHolds cases
+
+none_holds : (cases : List (Bool × Refusal)) → first_of cases ≡ None → NoneHolds cases
+none_holds [] none = tt
+none_holds (case ∷ cases) none =
+    ⊎_elim (λ (holds : case.0 ≡ true). absurd (let some : Some case.1 ≡ None = rw holds at none in cc)) (λ (fails : case.0 ≡ false). (fails, none_holds cases (rw fails at none))) (cases_Bool case.0)
+
+pub record IsFree (p : Plain) (name : List ℕ) (opts : Options) : Type 0 where
+  pub absent : is_some (row_named name p.tree.rows) ≡ false
+  pub parent : is_none (parent_in p.tree.rows (parent_name name)) ≡ false
+  pub options : are_bad_options p name opts ≡ false
+  pub iterations : are_bad_iterations opts.iters ≡ false
+  pub rows : length p.tree.rows < 256
+  pub ids : p.tree.last < 4294967295
+  pub families : (makes_encrypted p name opts && nat_le 32 (length p.wrapped)) ≡ false
+
+pub free : (p : Plain) (name : List ℕ) (opts : Options) → refusal_of p (commands.Create name opts) ≡ None → IsFree p name opts
+free p name opts accepted =
+    let none : NoneHolds (create_cases p name opts) = none_holds (create_cases p name opts) accepted in
+    record {
+      absent = none.0;
+      parent = none.1.0;
+      options = none.1.1.0;
+      iterations = none.1.1.1.0;
+      rows = below (length p.tree.rows) 256 none.1.1.1.1.1.0;
+      ids = below p.tree.last 4294967295 none.1.1.1.1.1.1.0;
+      families = none.1.1.1.1.1.1.1.0;
+    } where
+      below : (n limit : ℕ) → nat_le limit n ≡ false → n < limit
+      below n limit test = grind (arith, nat_tests)
+
+module _ (c : Ciphers) (p : Plain) (name : List ℕ) (opts : Options) (told : Told) (sound : Sound c p) (new : is_some (row_named name p.tree.rows) ≡ false)
+    (known : is_none (parent_in p.tree.rows (parent_name name)) ≡ false) where
   by_case : (root below : Bool) → (below ≡ true → is_encrypted_row (parent_row p name) ≡ true)
       → ((root || (not root && below)) ≡ true → is_some (c.opens (unwrap_or (at_id (p.tree.last + 1) told.wrapped) []) (if root then told.key else parent_key p (parent_row p name))) ≡ true)
       → Sound c (created_with p name opts told root (root || (not root && below)))
-  by_case true below parent opened = root_keeps c p name opts told sound (opened refl)
-  by_case false true parent opened = heir_keeps c p name opts told sound (parent refl) (opened refl)
-  by_case false false parent opened = plain_keeps c p name opts told sound
+  by_case true below parent opened = root_keeps c p name opts told sound new known (opened refl)
+  by_case false true parent opened = heir_keeps c p name opts told sound new known (parent refl) (opened refl)
+  by_case false false parent opened = plain_keeps c p name opts told sound new known
 
-  created_sound : IsGenuine c p (commands.Create name opts) told → Sound c (created p name opts told)
-  created_sound genuine = by_case (makes_root opts) (is_below_encrypted p name) (λ below. below)
+  by_free : IsGenuine c p (commands.Create name opts) told → Sound c (created p name opts told)
+  by_free genuine = by_case (makes_root opts) (is_below_encrypted p name) (λ below. below)
       (λ encrypted. record_opens c (if makes_root opts then told.key else parent_key p (parent_row p name)) told.wrapped (p.tree.last + 1)
       (genuine.families ∙ ap (λ (b : Bool). cond b ((p.tree.last + 1) ∷ []) []) encrypted) genuine.opened)
 
-  module _ (fair : IsFair c p (commands.Create name opts) told) where
-    carried_out_sound : step p (commands.Create name opts) told ≡ carried_out p (commands.Create name opts) told None → Sound c (created p name opts told)
-    carried_out_sound accepted = ⊎_elim
-        (λ (refused : (why : Refusal) × ((step p (commands.Create name opts) told).reply ≡ Refused why)).
-        absurd (let both : Refused refused.0 ≡ Made (p.tree.last + 1) = sym refused.1 ∙ ap (λ (s : Stepped). s.reply) accepted in cc))
-        (λ (genuine : IsGenuine c p (commands.Create name opts) told). created_sound genuine) fair
-
-    by_wrong : (wrong : Option ℕ) → step p (commands.Create name opts) told ≡ unless_wrong p (commands.Create name opts) told wrong → Sound c (unless_wrong p (commands.Create name opts) told wrong).state
-    by_wrong (Some dataset) same = sound
-    by_wrong None same = carried_out_sound same
-
-    by_fault : (fault : Option Refusal) → step p (commands.Create name opts) told ≡ unless_faulty p (commands.Create name opts) told fault → Sound c (unless_faulty p (commands.Create name opts) told fault).state
-    by_fault (Some why) same = sound
-    by_fault None same = by_wrong told.wrong same
-
-    by_refusal : (refusal : Option Refusal) → step p (commands.Create name opts) told ≡ unless_refused p (commands.Create name opts) told refusal
-        → Sound c (unless_refused p (commands.Create name opts) told refusal).state
-    by_refusal (Some why) same = sound
-    by_refusal None same = by_fault told.fault same
-
-    pub create_keeps : Sound c (step p (commands.Create name opts) told).state
-    create_keeps = by_refusal (refusal_of p (commands.Create name opts)) refl
+pub created_sound : (c : Ciphers) (p : Plain) (name : List ℕ) (opts : Options) (told : Told) → Sound c p → refusal_of p (commands.Create name opts) ≡ None → IsGenuine c p (commands.Create name opts) told
+    → Sound c (created p name opts told)
+created_sound c p name opts told sound accepted genuine =
+    let is : IsFree p name opts = free p name opts accepted in
+    by_free c p name opts told sound is.absent is.parent genuine

@@ -1,11 +1,11 @@
--- Lists that are filtered, cut at the first that fails a test, and looked up.
-use Rattle.std.proofs.Common.{◌≡◌, ◌⊎◌, ⊎_elim, ℕ, zero, suc, ◌<◌, ◌≤◌, Bool, true, false, not, cond, ◌==◌, nat_lt, List, [], ◌∷◌, length, get_or, map, Some, None, refl, ap, ◌∙◌, arith}
-use Rattle.std.proofs.lemmas.Bool.{cases_Bool, cond_both}
+-- Lists that are filtered, and looked up.
+use Rattle.std.proofs.Common.{◌≡◌, ◌⊎◌, ⊎_elim, ℕ, zero, suc, ◌<◌, ◌≤◌, Bool, true, false, cond, ◌==◌, nat_lt, List, [], ◌∷◌, length, get_or, map, Option, Some, None, is_some, refl, ap, sym, subst, ◌∙◌, arith}
+use Rattle.std.proofs.lemmas.Bool.{cases_Bool, cond_both, eqb-true}
 use Rattle.std.proofs.lemmas.Bool.Decides.{nat_tests}
 use Rattle.std.proofs.lemmas.List.{get_or_default}
-use Rattle.std.proofs.lemmas.List.Sums.{get_or-le-sum_by, take_while-cons}
-use Rattle.std.proofs.lemmas.List.Elements.{All-nil, All-cons, All-head, All-tail, All-same}
-use Rattle.std.specs.List.{All, Contains, filter, find, list_any, take_while, count_by}
+use Rattle.std.proofs.lemmas.List.Sums.{get_or-le-sum_by}
+use Rattle.std.proofs.lemmas.List.Elements.{All-nil, All-cons, All-head, All-tail}
+use Rattle.std.specs.List.{All, Contains, filter, count_by}
 use Rattle.encryption_roots.specs.ById.{IsRisingById, at_id, with_id}
 use Rattle.encryption_roots.proofs.ByIdLemmas.{at_id-found}
 
@@ -15,13 +15,6 @@ All-kept P Q test [] each all = All-nil Q
 All-kept P Q test (x ∷ xs) each all =
     let rest : All Q (filter test xs) = All-kept P Q test xs each (All-tail P x xs all) in
     ⊎_elim (λ (passes : test x ≡ true). rw passes (All-cons Q x (filter test xs) (each x (All-head P x xs all) passes) rest)) (λ (fails : test x ≡ false). rw fails rest) (cases_Bool (test x))
-
-pub any_kept : {X : Type 0} (test other : X → Bool) (xs : List X) (k : ℕ) (d : X) → k < length xs → test (get_or xs k d) ≡ true → other (get_or xs k d) ≡ true → list_any other (filter test xs) ≡ true
-any_kept test other [] k d within passes fits = absurd (omega arith)
-any_kept test other (x ∷ xs) zero d within passes fits = rw (passes, fits) refl
-any_kept test other (x ∷ xs) (suc k) d within passes fits =
-    let rest : list_any other (filter test xs) ≡ true = any_kept test other xs k d (omega arith) passes fits in
-    grind arith
 
 pub contains_kept : {X Y : Type 0} (test : X → Bool) (f : X → Y) (xs : List X) (k : ℕ) (d : X) → k < length xs → test (get_or xs k d) ≡ true → Contains (map f (filter test xs)) (f (get_or xs k d))
 contains_kept test f [] k d within passes = absurd (omega arith)
@@ -39,25 +32,47 @@ at_id-filter keep id (entry ∷ entries) kept =
     (λ (c : keep entry.0 ≡ false).
     ⊎_elim (λ (same : entry.0 ≡ id). absurd (let kept : keep entry.0 ≡ true = ap keep same ∙ kept in cc)) (λ (other : (entry.0 == id) ≡ false). rw (c, other) rest) cases) (cases_Bool (keep entry.0))
 
+pub at_id-dropped : {X : Type 0} (keep : ℕ → Bool) (id : ℕ) (entries : List (ℕ × X)) → keep id ≡ false → at_id id (filter (λ entry. keep entry.0) entries) ≡ None
+at_id-dropped keep id [] gone = refl
+at_id-dropped keep id (entry ∷ entries) gone =
+    let rest : at_id id (filter (λ entry. keep entry.0) entries) ≡ None = at_id-dropped keep id entries gone in
+    ⊎_elim
+    (λ (kept : keep entry.0 ≡ true).
+    let other : (entry.0 == id) ≡ false = unlike (entry.0 == id) (λ yes. (let same : entry.0 ≡ id = eqb-true entry.0 id yes in let kept : keep id ≡ true = ap keep (sym same) ∙ kept in let both : true ≡ false = sym kept ∙ gone in cc)) in
+    rw (kept, other) rest)
+    (λ (dropped : keep entry.0 ≡ false). rw dropped rest) (cases_Bool (keep entry.0))
+  where
+    unlike : (b : Bool) → (b ≡ true → ⊥) → b ≡ false
+    unlike true never = absurd (never refl)
+    unlike false never = refl
+
+-- what holds of each entry holds of one that is found
+pub at_id_is : {X : Type 0} (P : ℕ × X → Type 0) (id : ℕ) (entries : List (ℕ × X)) (value : X) → All P entries → at_id id entries ≡ Some value → P (id, value)
+at_id_is P id [] value all found = absurd (cc)
+at_id_is P id (entry ∷ entries) value all found =
+    (elim (entry.0 == id) as (λ b. (entry.0 == id) ≡ b → cond b (Some entry.1) (at_id id entries) ≡ Some value → P (id, value)) [
+      | true ↦ (λ own there.
+          let here : entry.1 ≡ value = cc in
+          let same : entry.0 ≡ id = eqb-true entry.0 id own in
+          subst (λ v. P (id, v)) here (subst (λ at. P (at, entry.1)) same (All-head P entry entries all)))
+      | false ↦ (λ other there. at_id_is P id entries value (All-tail P entry entries all) there)
+    ]) refl found
+
+some_of : {X : Type 0} (found : Option X) → is_some found ≡ true → (value : X) × (found ≡ Some value)
+some_of None none = absurd (cc)
+some_of (Some value) there = (value, refl)
+
+pub at_id_holds : {X : Type 0} (P : ℕ × X → Type 0) (id : ℕ) (entries : List (ℕ × X)) → All P entries → is_some (at_id id entries) ≡ true → (value : X) × P (id, value)
+at_id_holds P id entries all there =
+    let found = some_of (at_id id entries) there in
+    (found.0, at_id_is P id entries found.0 all found.1)
+
 -- in rising order each entry is found
 pub each_found : {X : Type 0} (entries : List (ℕ × X)) → IsRisingById entries → All (λ entry. at_id entry.0 entries ≡ Some entry.1) entries
 each_found entries ordered = λ k d within. at_id-found (get_or entries k d).0 entries k d within (λ j e from before.
     let lower : (get_or entries j e).0 < (get_or entries k e).0 = ordered j k e before within in
     let same : get_or entries k e ≡ get_or entries k d = get_or_default entries k e d within in
     rw same at lower) refl
-
-pub take_while_passes : {X : Type 0} (test : X → Bool) (xs : List X) → All (λ x. test x ≡ true) (take_while test xs)
-take_while_passes test [] = All-nil _
-take_while_passes test (x ∷ xs) =
-    let rest : All (λ x. test x ≡ true) (take_while test xs) = take_while_passes test xs in
-    All-same (λ x. test x ≡ true) (take_while test (x ∷ xs)) (cond (test x) (x ∷ take_while test xs) []) (take_while-cons test x xs)
-    (cond_both (test x) (x ∷ take_while test xs) [] (λ kept. All (λ x. test x ≡ true) kept) (λ passes. All-cons (λ x. test x ≡ true) x (take_while test xs) passes rest) (λ fails. All-nil (λ x. test x ≡ true)))
-
-pub take_while_all : {X : Type 0} (test : X → Bool) (xs : List X) → find test xs ≡ None → take_while (λ x. not (test x)) xs ≡ xs
-take_while_all test [] none = refl
-take_while_all test (x ∷ xs) none =
-    ⊎_elim (λ (passes : test x ≡ true). absurd (let none : cond (test x) (Some x) (find test xs) ≡ None = none in let here : cond (test x) (Some x) (find test xs) ≡ Some x = rw passes refl in cc))
-    (λ (fails : test x ≡ false). let later : find test xs ≡ None = rw fails at none in take_while-cons (λ x. not (test x)) x xs ∙ rw fails (ap (λ rest. x ∷ rest) (take_while_all test xs later))) (cases_Bool (test x))
 
 pub count_at : {X : Type 0} (test : X → Bool) (xs : List X) (k : ℕ) (d : X) → k < length xs → test (get_or xs k d) ≡ true → 1 ≤ count_by test xs
 count_at test xs k d within passes =

@@ -1,4 +1,3 @@
-pub mod NameLaws
 pub mod SoundLemmas
 pub mod CreateLawsRows
 pub mod CreateLawsGrown
@@ -8,4 +7,9 @@ pub mod CreateLawsTree
 pub mod CreateLawsCases
 pub mod CreateLawsStep
 pub mod KeyLists
-pub mod KeyLaws
+pub mod LoadLaws
+pub mod UnloadLaws
+pub mod FairLaws
+pub mod HoldLaws
+pub mod RefusalLaws
+pub mod FamilyLaws

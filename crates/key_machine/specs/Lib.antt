@@ -1,9 +1,15 @@
+pub mod Limits
 pub mod Plain
 pub mod Users
 pub mod Sound
-pub mod Needs
 pub mod Refusals
+pub mod Reply
 pub mod Told
-pub mod Properties
+pub mod Create
+pub mod Load
+pub mod Unload
+pub mod Get
 pub mod Step
+pub mod Busy
 pub mod Fair
+pub mod Sample

@@ -1,17 +1,21 @@
 -- The plain state of a keystore, without counts.
-use Rattle.std.specs.Prelude.{ℕ, Bool, false, ◌==◌, List, [], replicate, is_some}
+use Rattle.std.specs.Prelude.{ℕ, Bool, true, false, ◌==◌, List, [], replicate, is_some}
 use Rattle.std.specs.declared.option.Option.{Option}
 use Rattle.std.specs.declared.option.Option.TheVariants.{Some, None}
 use Rattle.std.specs.Option.{option_and_then}
 use Rattle.std.specs.List.{filter}
 use Rattle.std.specs.Prelude.{Result}
 use Rattle.dataset_tree.specs.declared.kinds.Format.{Format}
+use Rattle.dataset_tree.specs.declared.kinds.Kind.{Kind}
+use Rattle.dataset_tree.specs.declared.kinds.Kind.TheVariants.{Plain as PlainKind, Crypt}
 use Rattle.dataset_tree.specs.declared.kinds.Suite.{Suite}
 use Rattle.dataset_tree.specs.declared.refusal.Refusal.{Refusal}
+use Rattle.dataset_tree.specs.declared.tree.Row.{Row}
 use Rattle.dataset_tree.specs.Tree.{Datasets, no_datasets}
 use Rattle.encryption_roots.specs.declared.props.Props.{Props}
 use Rattle.encryption_roots.specs.ById.{at_id}
 use Rattle.encryption_roots.specs.Owners.{owner}
+use Rattle.key_machine.specs.Limits.{slot_count}
 
 -- a family's key record as it is stored, and its record size in bytes
 pub record Stored : Type 0 where
@@ -38,7 +42,7 @@ pub record Plain : Type 0 where
 
 -- a host that holds nothing
 abbrev pub no_keys : Plain
-no_keys = record { tree = no_datasets; roots = []; wrapped = []; loaded = []; gens = replicate 256 0; mapped = []; mounted = []; users = [] }
+no_keys = record { tree = no_datasets; roots = []; wrapped = []; loaded = []; gens = replicate slot_count 0; mapped = []; mounted = []; users = [] }
 
 -- a family's master key: its guid and suite, the suite's key bytes, and the 64 bytes of its HMAC key
 pub record Master : Type 0 where
@@ -49,14 +53,22 @@ pub record Master : Type 0 where
 
 -- What the definitions take from outside, since they know no cipher: the master key to which a stored record opens under a wrapping
 -- key; the stored record of a master key under a wrapping key and an initialization vector; the wrapping key of material in a format
--- with iterations and salt, or what is wrong with the material; and some words of a seed from a place on, four bytes each.
+-- with iterations and salt, or what is wrong with the material; and so many bytes of a seed's words from a place on.
 pub record Ciphers : Type 0 where
   pub opens : (stored key : List ℕ) → Option Master
   pub record_of : Master → (key vector : List ℕ) → List ℕ
   pub wkey : Format → (material : List ℕ) (iters salt : ℕ) → Result (List ℕ) Refusal
-  pub seed_bytes : (seed : List ℕ) (place words : ℕ) → List ℕ
+  pub seed_bytes : (seed : List ℕ) (place count : ℕ) → List ℕ
 
 -- ---- looking things up
+
+abbrev pub is_encrypted_kind : Kind → Bool
+is_encrypted_kind PlainKind = false
+is_encrypted_kind Crypt = true
+
+abbrev pub is_encrypted_row : Option Row → Bool
+is_encrypted_row None = false
+is_encrypted_row (Some row) = is_encrypted_kind row.kind
 
 abbrev pub owner_of : Plain → ℕ → Option ℕ
 owner_of p id = owner p.tree.rows p.roots id

@@ -7,6 +7,7 @@ use Rattle.dataset_tree.specs.declared.tree.Row.{Row}
 use Rattle.dataset_tree.specs.Tree.{IsTree, row_of}
 use Rattle.encryption_roots.specs.ById.{IsRisingById, at_id}
 use Rattle.encryption_roots.specs.Owners.{family}
+use Rattle.key_machine.specs.Limits.{slot_count, max_generation, max_riders, max_holds}
 use Rattle.key_machine.specs.Plain.{Plain, Ciphers, owner_of, is_root, has_key}
 use Rattle.key_machine.specs.Users.{generation_of}
 
@@ -49,14 +50,14 @@ pub record SoundUsers (p : Plain) : Type 0 where
   pub one : AllPairs (λ a b. a.rider ≡ b.rider → (a.slot ≡ b.slot) × (a.generation ≡ b.generation)) p.users
   pub mapped : All (λ hold. Contains (map (λ mapping. mapping.1) p.mapped) hold.slot) p.users
   pub present : All (λ hold. hold.generation ≡ generation_of p hold.slot) p.users
-  pub few : (rider : ℕ) → count_by (λ hold. hold.rider == rider) p.users ≤ 65535
-  pub riders : All (λ hold. (1 ≤ hold.rider) × (hold.rider ≤ 32)) p.users
+  pub few : (rider : ℕ) → count_by (λ hold. hold.rider == rider) p.users ≤ max_holds
+  pub riders : All (λ hold. (1 ≤ hold.rider) × (hold.rider ≤ max_riders)) p.users
 
 -- There are 256 slots, and a generation below 2 ^ 30 for each.
 pub record SoundSlots (p : Plain) : Type 0 where
-  pub slots : length p.gens ≡ 256
-  pub generations : All (λ generation. generation ≤ 1073741823) p.gens
-  pub mapped : All (λ mapping. mapping.1 < 256) p.mapped
+  pub slots : length p.gens ≡ slot_count
+  pub generations : All (λ generation. generation ≤ max_generation) p.gens
+  pub mapped : All (λ mapping. mapping.1 < slot_count) p.mapped
 
 pub record Sound (c : Ciphers) (p : Plain) : Type 0 where
   pub tree : SoundTree p
@@ -64,7 +65,3 @@ pub record Sound (c : Ciphers) (p : Plain) : Type 0 where
   pub keys : SoundKeys c p
   pub users : SoundUsers p
   pub slots : SoundSlots p
-
--- no two datasets have one name
-abbrev pub HasOwnNames : Plain → Type 0
-HasOwnNames p = AllPairs (λ earlier later. earlier.name ≢ later.name) p.tree.rows

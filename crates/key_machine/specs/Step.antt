@@ -1,121 +1,134 @@
--- What a key command does to a plain state, and its reply. A refused command changes nothing, but that an unload which is busy has
--- closed the idle mappings before the busy one.
-use Rattle.std.specs.Prelude.{◌≡◌, ◌⊎◌, ℕ, ◌+◌, ◌==◌, Bool, not, List, [], unwrap_or, if◌then◌else◌}
+-- The step of a key command, by its command: its refusals, what it takes, what that tells, and its effect. A refused command changes
+-- nothing, but that an unload which is busy has closed the idle mappings before the busy one.
+use Rattle.std.specs.Prelude.{◌≡◌, ℕ, List, []}
 use Rattle.std.specs.declared.option.Option.{Option}
 use Rattle.std.specs.declared.option.Option.TheVariants.{Some, None}
-use Rattle.std.specs.List.{filter, find, list_any, take_while}
-use Rattle.dataset_tree.specs.declared.kinds.Kind.TheVariants.{Plain as PlainKind, Crypt}
+use Rattle.std.specs.Option.{option_and_then}
 use Rattle.dataset_tree.specs.declared.refusal.Refusal.{Refusal}
-use Rattle.dataset_tree.specs.declared.refusal.Refusal.TheVariants.{WrongKey, Busy}
-use Rattle.dataset_tree.specs.Tree.{with_row, id_named}
-use Rattle.encryption_roots.specs.declared.props.Props.{Props}
-use Rattle.encryption_roots.specs.declared.props.Options.{Options}
-use Rattle.encryption_roots.specs.declared.props.Location.TheVariants.{Prompt}
+use Rattle.dataset_tree.specs.Tree.{id_named}
 use Rattle.encryption_roots.specs.declared.command.KeyCmd.{KeyCmd}
 use Rattle.encryption_roots.specs.declared.command.KeyCmd.TheVariants as commands
-use Rattle.encryption_roots.specs.ById.{at_id, with_id, without_id}
-use Rattle.key_machine.specs.Plain.{Plain, Stored, owner_of, is_same}
-use Rattle.key_machine.specs.Users.{users_of, is_used}
-use Rattle.key_machine.specs.Needs.{makes_root, makes_encrypted}
-use Rattle.key_machine.specs.Refusals.{refusal_of}
-use Rattle.key_machine.specs.Told.{Told, new_format, new_iters}
-use Rattle.key_machine.specs.Properties.{property_text}
+use Rattle.encryption_roots.specs.declared.kit.LineKit.{LineKit}
+use Rattle.key_machine.specs.Create.{create_cases, create_material, create_wanted, told_create, create_done}
+use Rattle.key_machine.specs.Get.{get_cases, get_done}
+use Rattle.key_machine.specs.Load.{load_cases, load_material, load_wanted, told_load, load_done}
+use Rattle.key_machine.specs.Plain.{Plain, Ciphers}
+use Rattle.key_machine.specs.Refusals.{first_of, first_refusal, not_built}
+use Rattle.key_machine.specs.Reply.{Stepped, refused, unless_refused}
+use Rattle.key_machine.specs.Told.{Wanted, nothing_wanted, Told, nothing_told}
+use Rattle.key_machine.specs.Unload.{InUse, first_in_use, unload_cases, unload_done}
 
-pub data Reply : Type 0 where
-  Done : Reply
-  Made : (id : ℕ) → Reply
-  Text : (text : List ℕ) → Reply
-  Refused : (why : Refusal) → Reply
-  Reaped : (dataset : ℕ) (dropped : Bool) → Reply
-  Skipped : Reply
+-- the refusal that the state decides
+abbrev pub refusal_of : Plain → KeyCmd → Option Refusal
+refusal_of p (commands.Create name opts) = first_of (create_cases p name opts)
+refusal_of p (commands.Load name check_only place) = first_of (load_cases p name check_only)
+refusal_of p (commands.Unload name) = first_of (unload_cases p name)
+refusal_of p (commands.Change name opts load_first) = Some not_built
+refusal_of p (commands.Inherit name load_first) = Some not_built
+refusal_of p (commands.Mount name) = Some not_built
+refusal_of p (commands.Unmount name) = Some not_built
+refusal_of p (commands.Get name prop) = first_of (get_cases p name)
+refusal_of p (commands.Clone from name) = Some not_built
+refusal_of p (commands.Receive name props wrapped block) = Some not_built
+refusal_of p (commands.Destroy name snaps) = Some not_built
 
--- the state after a step, and the reply
-pub record Stepped : Type 0 where
-  pub state : Plain
-  pub reply : Reply
+-- what a command takes that the state doesn't refuse
+abbrev pub wanted : Plain → KeyCmd → Wanted
+wanted p (commands.Create name opts) = create_wanted p name opts
+wanted p (commands.Load name check_only place) = load_wanted p name place
+wanted p (commands.Unload name) = nothing_wanted
+wanted p (commands.Change name opts load_first) = nothing_wanted
+wanted p (commands.Inherit name load_first) = nothing_wanted
+wanted p (commands.Mount name) = nothing_wanted
+wanted p (commands.Unmount name) = nothing_wanted
+wanted p (commands.Get name prop) = nothing_wanted
+wanted p (commands.Clone from name) = nothing_wanted
+wanted p (commands.Receive name props wrapped block) = nothing_wanted
+wanted p (commands.Destroy name snaps) = nothing_wanted
 
-abbrev pub refused : Plain → Refusal → Stepped
-refused p why = record { state = p; reply = Refused why }
+-- what that tells
+abbrev pub told : Ciphers → Plain → KeyCmd → LineKit → Told
+told c p (commands.Create name opts) kit = told_create c p name opts kit
+told c p (commands.Load name check_only place) kit = told_load c p kit (id_named name p.tree.rows)
+told c p (commands.Unload name) kit = nothing_told
+told c p (commands.Change name opts load_first) kit = nothing_told
+told c p (commands.Inherit name load_first) kit = nothing_told
+told c p (commands.Mount name) kit = nothing_told
+told c p (commands.Unmount name) kit = nothing_told
+told c p (commands.Get name prop) kit = nothing_told
+told c p (commands.Clone from name) kit = nothing_told
+told c p (commands.Receive name props wrapped block) kit = nothing_told
+told c p (commands.Destroy name snaps) kit = nothing_told
 
--- ---- create
+-- the refusals that what is told decides, in the command's order
+abbrev pub material_cases : Plain → KeyCmd → Told → List (Option Refusal)
+material_cases p (commands.Create name opts) told = create_material told
+material_cases p (commands.Load name check_only place) told = load_material told
+material_cases p (commands.Unload name) told = []
+material_cases p (commands.Change name opts load_first) told = []
+material_cases p (commands.Inherit name load_first) told = []
+material_cases p (commands.Mount name) told = []
+material_cases p (commands.Unmount name) told = []
+material_cases p (commands.Get name prop) told = []
+material_cases p (commands.Clone from name) told = []
+material_cases p (commands.Receive name props wrapped block) told = []
+material_cases p (commands.Destroy name snaps) told = []
 
-abbrev pub new_props : Options → Told → Props
-new_props opts told = record { format = new_format opts; place = unwrap_or opts.place Prompt; iters = new_iters opts; salt = told.salt }
-
--- a new family has an empty record where none was written for it
-abbrev pub new_stored : ℕ → Options → Told → Stored
-new_stored id opts told = record { wrapped = unwrap_or (at_id id told.wrapped) []; block = unwrap_or opts.block 131072 }
-
-abbrev pub created : Plain → List ℕ → Options → Told → Plain
-created p name opts told =
-    let id = p.tree.last + 1 in
-    record p {
-      tree = with_row p.tree name (if makes_encrypted p name opts then Crypt else PlainKind) 0;
-      roots = if makes_root opts then with_id id (new_props opts told) p.roots else p.roots;
-      wrapped = if makes_encrypted p name opts then with_id id (new_stored id opts told) p.wrapped else p.wrapped;
-      loaded = if makes_root opts then with_id id told.key p.loaded else p.loaded;
-    }
-
--- ---- load and unload
-
-abbrev pub loaded_key : Plain → ℕ → Bool → Told → Plain
-loaded_key p root check_only told = if check_only then p else record p { loaded = with_id root told.key p.loaded }
-
--- the mappings of the datasets that the root owns, in order of id
-abbrev pub owned_mappings : Plain → ℕ → List (ℕ × ℕ)
-owned_mappings p root = filter (λ mapping. is_same root (owner_of p mapping.0)) p.mapped
-
-abbrev pub without_mappings : Plain → List (ℕ × ℕ) → Plain
-without_mappings p closed = record p { mapped = filter (λ mapping. not (list_any (λ other. other.0 == mapping.0) closed)) p.mapped }
-
--- Busy at the first mapping in use, once the idle ones before it are closed; else all are closed and the key goes.
-abbrev pub unloaded_from : Plain → ℕ → List (ℕ × ℕ) → Option (ℕ × ℕ) → Stepped
-unloaded_from p root idle None = record { state = record (without_mappings p idle) { loaded = without_id root p.loaded }; reply = Done }
-unloaded_from p root idle (Some busy) = refused (without_mappings p idle) (Busy busy.0 (users_of p busy))
-
-abbrev pub unloaded : Plain → ℕ → Stepped
-unloaded p root =
-    let mappings = owned_mappings p root in
-    unloaded_from p root (take_while (λ mapping. not (is_used p mapping)) mappings) (find (λ mapping. is_used p mapping) mappings)
-
--- ---- a command whose state and material refuse nothing
-
-abbrev pub carried_out : Plain → KeyCmd → Told → Option ℕ → Stepped
-carried_out p (commands.Create name opts) told found = record { state = created p name opts told; reply = Made (p.tree.last + 1) }
-carried_out p (commands.Load name check_only place) told (Some root) = record { state = loaded_key p root check_only told; reply = Done }
-carried_out p (commands.Unload name) told (Some root) = unloaded p root
-carried_out p (commands.Get name prop) told (Some id) = record { state = p; reply = Text (property_text p id prop) }
-carried_out p command told found = record { state = p; reply = Skipped }
+abbrev pub material_refusal : Plain → KeyCmd → Told → Option Refusal
+material_refusal p command told = first_refusal (material_cases p command told)
 
 -- the dataset that a command is about, where it is there
 abbrev pub target : Plain → KeyCmd → Option ℕ
+target p (commands.Create name opts) = None
 target p (commands.Load name check_only place) = id_named name p.tree.rows
 target p (commands.Unload name) = id_named name p.tree.rows
+target p (commands.Change name opts load_first) = None
+target p (commands.Inherit name load_first) = None
+target p (commands.Mount name) = None
+target p (commands.Unmount name) = None
 target p (commands.Get name prop) = id_named name p.tree.rows
-target p command = None
+target p (commands.Clone from name) = None
+target p (commands.Receive name props wrapped block) = None
+target p (commands.Destroy name snaps) = None
 
--- First what the state refuses, then a fault of the material or the seed, then a record that doesn't open.
-abbrev pub unless_wrong : Plain → KeyCmd → Told → Option ℕ → Stepped
-unless_wrong p command told (Some dataset) = refused p (WrongKey dataset)
-unless_wrong p command told None = carried_out p command told (target p command)
+-- the effect, by what the command's closes found
+abbrev pub carried_out : Plain → KeyCmd → Told → Option InUse → Option ℕ → Stepped
+carried_out p (commands.Create name opts) told found at = create_done p name opts told
+carried_out p (commands.Load name check_only place) told found at = load_done p check_only told at
+carried_out p (commands.Unload name) told found at = unload_done p found at
+carried_out p (commands.Change name opts load_first) told found at = refused p not_built
+carried_out p (commands.Inherit name load_first) told found at = refused p not_built
+carried_out p (commands.Mount name) told found at = refused p not_built
+carried_out p (commands.Unmount name) told found at = refused p not_built
+carried_out p (commands.Get name prop) told found at = get_done p prop at
+carried_out p (commands.Clone from name) told found at = refused p not_built
+carried_out p (commands.Receive name props wrapped block) told found at = refused p not_built
+carried_out p (commands.Destroy name snaps) told found at = refused p not_built
 
-abbrev pub unless_faulty : Plain → KeyCmd → Told → Option Refusal → Stepped
-unless_faulty p command told (Some why) = refused p why
-unless_faulty p command told None = unless_wrong p command told told.wrong
+-- what the closes of a command find by the plain state's own users: those of a root's mappings, where its key is unloaded
+abbrev pub in_use : Plain → KeyCmd → Option InUse
+in_use p (commands.Create name opts) = None
+in_use p (commands.Load name check_only place) = None
+in_use p (commands.Unload name) = option_and_then (first_in_use p) (id_named name p.tree.rows)
+in_use p (commands.Change name opts load_first) = None
+in_use p (commands.Inherit name load_first) = None
+in_use p (commands.Mount name) = None
+in_use p (commands.Unmount name) = None
+in_use p (commands.Get name prop) = None
+in_use p (commands.Clone from name) = None
+in_use p (commands.Receive name props wrapped block) = None
+in_use p (commands.Destroy name snaps) = None
 
-abbrev pub unless_refused : Plain → KeyCmd → Told → Option Refusal → Stepped
-unless_refused p command told (Some why) = refused p why
-unless_refused p command told None = unless_faulty p command told told.fault
+-- the step of a command whose closes found this mapping in use, or none
+abbrev pub key_step_found : Option InUse → Plain → KeyCmd → Told → Stepped
+key_step_found found p command told =
+    unless_refused p (refusal_of p command) (unless_refused p (material_refusal p command told) (carried_out p command told found (target p command)))
 
-abbrev pub step : Plain → KeyCmd → Told → Stepped
-step p command told = unless_refused p command told (refusal_of p command)
+-- the step of a plain state
+abbrev pub key_step : Plain → KeyCmd → Told → Stepped
+key_step p command told = key_step_found (in_use p command) p command told
 
 -- neither the state nor the material refuses the command
 pub record IsAccepted (p : Plain) (command : KeyCmd) (told : Told) : Type 0 where
   pub state : refusal_of p command ≡ None
-  pub material : told.fault ≡ None
-  pub records : told.wrong ≡ None
-
--- a refusal leaves the state, but a busy one may have closed mappings
-abbrev pub ChangesOnlyByBusy : Plain → Plain → Refusal → Type 0
-ChangesOnlyByBusy old new why = (new ≡ old) ⊎ ((dataset : ℕ) × (count : ℕ) × (why ≡ Busy dataset count))
+  pub material : material_refusal p command told ≡ None

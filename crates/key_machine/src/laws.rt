@@ -1,46 +1,53 @@
-// Laws of the plain machine.
-ghost use Rattle.std.specs.Prelude.{◌≡◌, ◌⊎◌, ℕ, ◌+◌, List, [], Some, None, true, is_some};
+// Laws of all commands.
+ghost use Rattle.std.specs.Prelude.{◌≡◌, ◌⊎◌, ℕ, [], Some, None, length};
 ghost use Rattle.dataset_tree.specs.declared.refusal.Refusal.{Refusal};
 ghost use Rattle.dataset_tree.specs.declared.refusal.Refusal.TheVariants.{Busy};
-ghost use Rattle.encryption_roots.specs.declared.props.Options.{Options};
+ghost use Rattle.dataset_tree.specs.Tree.{IsTree};
 ghost use Rattle.encryption_roots.specs.declared.command.KeyCmd.{KeyCmd};
-ghost use Rattle.encryption_roots.specs.declared.command.KeyCmd.TheVariants as commands;
-ghost use Rattle.encryption_roots.specs.ById.{at_id, without_id};
+ghost use Rattle.encryption_roots.specs.declared.kit.LineKit.{LineKit};
+ghost use Rattle.encryption_roots.specs.ById.{IsRisingById};
 ghost use Rattle.key_machine.specs.Plain.{Plain, Ciphers, no_keys};
-ghost use Rattle.key_machine.specs.Needs.{makes_root};
-ghost use Rattle.key_machine.specs.Refusals.{refusal_of};
-ghost use Rattle.key_machine.specs.Sound.{Sound, HasOwnNames};
-ghost use Rattle.key_machine.specs.Step.{step, target, Refused, Made, Done, new_props, ChangesOnlyByBusy, IsAccepted};
-ghost use Rattle.key_machine.specs.Told.{Told};
+ghost use Rattle.key_machine.specs.Reply.{Refused};
+ghost use Rattle.key_machine.specs.Sound.{Sound};
+ghost use Rattle.key_machine.specs.Step.{told, target, key_step};
+ghost use Rattle.key_machine.specs.Told.{Told, no_key};
+ghost use Rattle.key_machine.specs.Unload.{closed_below};
+ghost use Rattle.key_machine.specs.Busy.{IsFirstInUse};
+ghost use Rattle.key_machine.specs.Fair.{AreSound, IsFair};
 
 /// A host that holds nothing is sound, whatever the ciphers.
 pub fn nothing_is_sound()
     ensures { (c : Ciphers) → Sound c no_keys }
 {}
 
-/// A refused command leaves the state as it is, but for an unload that is busy.
+/// A command keeps a state sound, where what is told of its material is fair.
+pub fn fair_steps_keep_soundness()
+    ensures { (c : Ciphers) (p : Plain) (command : KeyCmd) (told : Told) → Sound c p → IsFair c p command told → Sound c (key_step p command told).state }
+{}
+
+/// What a kit tells is fair in every state, where the ciphers are sound: a new record opens under the key that will own it, and a load is
+/// accepted only where each record that the root owns opens.
+pub fn what_a_kit_tells_is_fair()
+    ensures { (c : Ciphers) (p : Plain) (command : KeyCmd) (kit : LineKit) → AreSound c → IsFair c p command (told c p command kit) }
+{}
+
+/// A told key has 32 bytes, and under a fault it is zeros, no salt is told, no record is wrong and none is written.
+pub fn a_fault_tells_nothing_else()
+    ensures key { (c : Ciphers) (p : Plain) (command : KeyCmd) (kit : LineKit) → AreSound c → length (told c p command kit).key ≡ 32 }
+    ensures fault { (c : Ciphers) (p : Plain) (command : KeyCmd) (kit : LineKit) (why : Refusal) → (told c p command kit).fault ≡ Some why →
+        told c p command kit ≡ record { fault = Some why; wrong = None; key = no_key; salt = 0; wrapped = [] } }
+{}
+
+/// A refused command leaves the state as it is, but that one which is busy has closed the idle mappings of the root's datasets before the
+/// one that it names.
 pub fn a_refusal_changes_nothing()
-    ensures { (p : Plain) (command : KeyCmd) (told : Told) (why : Refusal) → (step p command told).reply ≡ Refused why → ChangesOnlyByBusy p (step p command told).state why }
+    ensures { (p : Plain) (command : KeyCmd) (told : Told) (why : Refusal) → IsRisingById p.mapped → (key_step p command told).reply ≡ Refused why →
+        ((key_step p command told).state ≡ p)
+        ⊎ ((root dataset count : ℕ) × (target p command ≡ Some root) × (why ≡ Busy dataset count) × IsFirstInUse p root dataset count
+        × ((key_step p command told).state ≡ record p { mapped = closed_below p root dataset })) }
 {}
 
-/// After an accepted create of a root its key is loaded, and its properties are those of the options.
-pub fn a_new_root_has_its_key()
-    ensures key { (p : Plain) (name : List ℕ) (opts : Options) (told : Told) → makes_root opts ≡ true → IsAccepted p (commands.Create name opts) told →
-        at_id (p.tree.last + 1) (step p (commands.Create name opts) told).state.loaded ≡ Some told.key }
-    ensures root { (p : Plain) (name : List ℕ) (opts : Options) (told : Told) → makes_root opts ≡ true → IsAccepted p (commands.Create name opts) told →
-        at_id (p.tree.last + 1) (step p (commands.Create name opts) told).state.roots ≡ Some (new_props opts told) }
-    ensures made { (p : Plain) (name : List ℕ) (opts : Options) (told : Told) → IsAccepted p (commands.Create name opts) told →
-        (step p (commands.Create name opts) told).reply ≡ Made (p.tree.last + 1) }
-{}
-
-/// An accepted unload of a root with no mapped dataset drops its loaded key, and changes nothing else.
-pub fn an_unload_drops_the_key_alone()
-    ensures { (p : Plain) (name : List ℕ) (told : Told) (root : ℕ) → p.mapped ≡ [] → target p (commands.Unload name) ≡ Some root → IsAccepted p (commands.Unload name) told →
-        ((step p (commands.Unload name) told).state ≡ record p { loaded = without_id root p.loaded }) × ((step p (commands.Unload name) told).reply ≡ Done) }
-{}
-
-/// Names tell datasets apart: a host that holds nothing has no name twice, and no command gives one that is there.
-pub fn no_name_is_given_twice()
-    ensures nothing { HasOwnNames no_keys }
-    ensures step { (p : Plain) (command : KeyCmd) (told : Told) → HasOwnNames p → HasOwnNames (step p command told).state }
+/// Each command keeps a tree one, whatever is told: no name is given twice, and a dataset's parent is the one that its name tells.
+pub fn each_step_keeps_the_tree()
+    ensures { (p : Plain) (command : KeyCmd) (told : Told) → IsTree p.tree → IsTree (key_step p command told).state.tree }
 {}

@@ -7,10 +7,21 @@
 mod create_laws;
 mod key_laws;
 mod laws;
+mod sound_laws;
+mod values;
 
-pub use create_laws::creates_keep_soundness;
-pub use key_laws::{a_load_is_accepted_where_the_records_open, loads_and_unloads_keep_soundness};
+pub use create_laws::a_new_root_has_its_key;
+pub use key_laws::{
+    a_load_adds_its_key_alone, a_load_is_accepted_where_the_records_open,
+    an_unload_drops_the_key_alone, an_unload_is_busy_at_the_first_mapping_in_use,
+};
 pub use laws::{
-    a_new_root_has_its_key, a_refusal_changes_nothing, an_unload_drops_the_key_alone,
-    no_name_is_given_twice, nothing_is_sound,
+    a_fault_tells_nothing_else, a_refusal_changes_nothing, each_step_keeps_the_tree,
+    fair_steps_keep_soundness, nothing_is_sound, what_a_kit_tells_is_fair,
+};
+pub use sound_laws::{a_loaded_key_opens_its_families, mounts_and_holds_are_bounded};
+pub use values::{
+    creates_are_refused_in_order, defaults_of_a_create, holds_of_a_rider, holds_stand_by_rider,
+    loads_are_refused_in_order, master_keys_of_families, places_of_takings, users_of_keys,
+    words_of_slots,
 };

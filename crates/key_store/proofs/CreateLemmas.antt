@@ -1,11 +1,11 @@
 -- A create that the state doesn't refuse.
-use Rattle.std.proofs.Common.{◌≡◌, ⊎_elim, inr, ℕ, ◌+◌, ◌<◌, ◌≤◌, Bool, true, false, not, cond, ◌&&◌, ◌||◌, nat_le, List, [], ◌∷◌, length, map, Option, Some, None, Ok, Err, is_some, is_none, refl, ap, sym, ◌∙◌, subst, arith}
+use Rattle.std.proofs.Common.{◌≡◌, ⊎_elim, inr, ℕ, ◌+◌, ◌<◌, ◌≤◌, Bool, true, false, not, cond, ◌&&◌, ◌||◌, nat_le, List, [], ◌∷◌, length, map, Option, Some, None, ◌==◌, Result, Ok, Err, is_some, is_none, refl, ap, sym, ◌∙◌, subst, arith}
 use Rattle.std.proofs.lemmas.Bool.{cases_Bool}
 use Rattle.std.proofs.lemmas.Bool.Decides.{nat_tests}
 use Rattle.std.proofs.lemmas.List.Elements.{All-nil, All-cons, recursion_from_All}
 use Rattle.dataset_tree.specs.declared.kinds.Kind.TheVariants.{Plain as PlainKind, Crypt}
 use Rattle.dataset_tree.specs.declared.refusal.Refusal.{Refusal}
-use Rattle.dataset_tree.specs.declared.refusal.Refusal.TheVariants.{Exists}
+use Rattle.dataset_tree.specs.declared.refusal.Refusal.TheVariants.{Exists, EntropyFault}
 use Rattle.dataset_tree.specs.SetName.{parent_name}
 use Rattle.dataset_tree.specs.Tree.{Datasets, row_of, row_named, parent_in, id_below, new_id, with_row}
 use Rattle.encryption_roots.specs.declared.props.Options.{Options}
@@ -17,59 +17,33 @@ use Rattle.dataset_tree.specs.declared.tree.Row.{Row}
 use Rattle.std.specs.Option.{option_and_then}
 use Rattle.key_machine.proofs.CreateLawsRows.{row_of_new}
 use Rattle.dataset_tree.specs.declared.kinds.Format.{Format}
+use Rattle.dataset_tree.specs.declared.kinds.Format.TheVariants.{Raw}
 use Rattle.std.specs.Prelude.{unwrap_or, if◌then◌else◌}
 use Rattle.encryption_roots.specs.declared.command.KeyCmd.TheVariants as commands
 use Rattle.encryption_roots.specs.declared.kit.LineKit.{LineKit}
+use Rattle.encryption_roots.specs.declared.kit.SeedGot.{SeedGot}
+use Rattle.encryption_roots.specs.declared.kit.SeedGot.TheVariants as seeds
+use Rattle.encryption_roots.specs.declared.props.Location.TheVariants.{Prompt}
+use Rattle.encryption_roots.specs.Props.{KeepsIterations}
+use Rattle.encryption_roots.specs.RecordSize.{IsRecordSize}
+use Rattle.wrapped_keys.specs.Stored.{parsed_record}
 use Rattle.key_machine.specs.Plain.{Plain, Stored, Ciphers, owner_of, mkey}
-use Rattle.key_machine.specs.Needs.{makes_root, makes_encrypted, is_below_encrypted, parent_row}
-use Rattle.key_machine.specs.Refusals.{first_of, refusal_of, create_cases, is_passphrase, are_bad_options, are_bad_iterations}
-use Rattle.key_machine.specs.Told.{Told, nothing_told, told, told_create_with, create_key, seed_of, parent_key}
-use Rattle.key_machine.specs.Step.{Stepped, Made, step, new_props, new_stored}
+use Rattle.key_machine.specs.Create.{makes_root, makes_encrypted, is_below_encrypted, parent_row, parent_key, is_passphrase, told_encrypted, create_key, new_format, new_iters, new_salt, new_suite, seeded_record, new_props, new_stored}
+use Rattle.key_machine.specs.Refusals.{first_refusal}
+use Rattle.key_machine.specs.Reply.{Stepped, Made}
+use Rattle.key_machine.specs.Step.{refusal_of, told, key_step}
+use Rattle.key_machine.specs.Told.{Told, nothing_told, no_key, key_of, seed_of}
 use Rattle.key_machine.specs.Fair.{IsGenuine, AllOpen, key_written}
 use Rattle.key_machine.specs.Sound.{Sound}
 use Rattle.key_machine.proofs.SoundLemmas.{accepted_step}
 use Rattle.key_machine.proofs.CreateLawsCases.{created_with, new_row}
-use Rattle.key_machine.proofs.CreateLawsStep.{create_keeps}
+use Rattle.key_machine.proofs.CreateLawsStep.{IsFree, free}
+use Rattle.key_machine.proofs.FairLaws.{keeps}
 use Rattle.key_store.specs.declared.create.NewRoot.{NewRoot}
-use Rattle.key_store.specs.Ciphers.{ciphers}
+use Rattle.key_ciphers.specs.Ciphers.{ciphers}
 use Rattle.key_store.specs.Calls.{stepped}
 use Rattle.key_store.specs.NewRoot.{IsToldRoot}
 use Rattle.key_store.specs.State.{stored_of}
-
--- ---- what the state didn't refuse
-
-abbrev NoneHolds : List (Bool × Refusal) → Type 0
-NoneHolds [] = Unit {0}
-NoneHolds (case ∷ cases) = (case.0 ≡ false) × NoneHolds cases
-
-none_holds : (cases : List (Bool × Refusal)) → first_of cases ≡ None → NoneHolds cases
-none_holds [] none = tt
-none_holds (case ∷ cases) none =
-    ⊎_elim (λ (holds : case.0 ≡ true). absurd (let some : Some case.1 ≡ None = rw holds at none in cc)) (λ (fails : case.0 ≡ false). (fails, none_holds cases (rw fails at none))) (cases_Bool case.0)
-
-pub record IsFree (p : Plain) (name : List ℕ) (opts : Options) : Type 0 where
-  pub absent : is_some (row_named name p.tree.rows) ≡ false
-  pub parent : is_none (parent_in p.tree.rows (parent_name name)) ≡ false
-  pub options : are_bad_options p name opts ≡ false
-  pub iterations : are_bad_iterations opts.iters ≡ false
-  pub rows : length p.tree.rows < 256
-  pub ids : p.tree.last < 4294967295
-  pub families : (makes_encrypted p name opts && nat_le 32 (length p.wrapped)) ≡ false
-
-pub free : (p : Plain) (name : List ℕ) (opts : Options) → refusal_of p (commands.Create name opts) ≡ None → IsFree p name opts
-free p name opts accepted =
-    let none : NoneHolds (create_cases p name opts) = none_holds (create_cases p name opts) accepted in
-    record {
-      absent = none.0;
-      parent = none.1.0;
-      options = none.1.1.0;
-      iterations = none.1.1.1.0;
-      rows = below (length p.tree.rows) 256 none.1.1.1.1.1.0;
-      ids = below p.tree.last 4294967295 none.1.1.1.1.1.1.0;
-      families = none.1.1.1.1.1.1.1.0;
-    } where
-      below : (n limit : ℕ) → nat_le limit n ≡ false → n < limit
-      below n limit test = grind (arith, nat_tests)
 
 pub few_families : (p : Plain) (name : List ℕ) (opts : Options) → IsFree p name opts → makes_encrypted p name opts ≡ true → length p.wrapped < 32
 few_families p name opts is encrypted =
@@ -106,20 +80,19 @@ module _ (p : Plain) (name : List ℕ) (opts : Options) (accepted : refusal_of p
       let below : is_below_encrypted p name ≡ false = not_below opts.format (is_some opts.place) (is_some opts.iters) (is_some opts.suite) (is_below_encrypted p name) plain is.options in
       ap (λ b. b || (not b && is_below_encrypted p name)) is_no_root ∙ below
 
-  plain_carried : step p (commands.Create name opts) nothing_told ≡ record { state = record p { tree = with_row p.tree name PlainKind 0 }; reply = Made (p.tree.last + 1) }
+  plain_carried : key_step p (commands.Create name opts) nothing_told ≡ record { state = record p { tree = with_row p.tree name PlainKind 0 }; reply = Made (p.tree.last + 1) }
   plain_carried =
-      let carried : step p (commands.Create name opts) nothing_told ≡ record { state = created_with p name opts nothing_told (makes_root opts) (makes_encrypted p name opts); reply = Made (p.tree.last + 1) } =
-      accepted_step p (commands.Create name opts) nothing_told (record { state = accepted; material = refl; records = refl }) in
+      let carried : key_step p (commands.Create name opts) nothing_told ≡ record { state = created_with p name opts nothing_told (makes_root opts) (makes_encrypted p name opts); reply = Made (p.tree.last + 1) } =
+      accepted_step p (commands.Create name opts) nothing_told (record { state = accepted; material = refl }) in
       carried
       ∙ ap (λ b. record { state = created_with p name opts nothing_told b (makes_encrypted p name opts); reply = Made (p.tree.last + 1) }) is_no_root
       ∙ ap (λ b. record { state = created_with p name opts nothing_told false b; reply = Made (p.tree.last + 1) }) is_not_encrypted
 
   pub plain_step : (kit : LineKit) → stepped p (commands.Create name opts) kit ≡ record { state = record p { tree = with_row p.tree name PlainKind 0 }; reply = Made (p.tree.last + 1) }
   plain_step kit =
-      let seed : List ℕ = unwrap_or (seed_of kit.seed) [] in
       let facts : told ciphers p (commands.Create name opts) kit ≡ nothing_told =
-      ap (λ b. cond b (told_create_with ciphers p name opts kit seed (create_key ciphers p name opts kit seed)) nothing_told) is_not_encrypted in
-      ap (λ told. step p (commands.Create name opts) told) facts ∙ plain_carried
+      ap (λ b. cond b (told_encrypted ciphers p name opts (create_key ciphers p name opts kit) (seed_of kit.seed)) nothing_told) is_not_encrypted in
+      ap (λ told. key_step p (commands.Create name opts) told) facts ∙ plain_carried
 
   pub plain_sound : Sound ciphers p → Sound ciphers (record p { tree = with_row p.tree name PlainKind 0 })
   plain_sound sound =
@@ -128,7 +101,7 @@ module _ (p : Plain) (name : List ℕ) (opts : Options) (accepted : refusal_of p
         families = sym (ap (λ b. cond b ((p.tree.last + 1) ∷ []) []) is_not_encrypted);
         opened = All-nil _;
       } in
-      subst (λ (s : Stepped). Sound ciphers s.state) plain_carried (create_keeps ciphers p name opts nothing_told sound (inr genuine))
+      subst (λ (s : Stepped). Sound ciphers s.state) plain_carried (keeps ciphers p (commands.Create name opts) nothing_told sound (inr genuine))
 
 -- ---- the master key of a family
 
@@ -146,10 +119,10 @@ module _ (p : Plain) (name : List ℕ) (opts : Options) (facts : Told) (root : N
   pub is_encrypted : makes_encrypted p name opts ≡ true
   is_encrypted = ap (λ b. b || (not b && is_below_encrypted p name)) is_root
 
-  pub root_step : step p (commands.Create name opts) facts ≡ record { state = created_with p name opts facts true true; reply = Made (p.tree.last + 1) }
+  pub root_step : key_step p (commands.Create name opts) facts ≡ record { state = created_with p name opts facts true true; reply = Made (p.tree.last + 1) }
   root_step =
-      let carried : step p (commands.Create name opts) facts ≡ record { state = created_with p name opts facts (makes_root opts) (makes_encrypted p name opts); reply = Made (p.tree.last + 1) } =
-      accepted_step p (commands.Create name opts) facts (record { state = accepted; material = is.no_fault; records = is.none_wrong }) in
+      let carried : key_step p (commands.Create name opts) facts ≡ record { state = created_with p name opts facts (makes_root opts) (makes_encrypted p name opts); reply = Made (p.tree.last + 1) } =
+      accepted_step p (commands.Create name opts) facts (record { state = accepted; material = ap (λ f. first_refusal (f ∷ [])) is.no_fault }) in
       carried
       ∙ ap (λ b. record { state = created_with p name opts facts b (makes_encrypted p name opts); reply = Made (p.tree.last + 1) }) is_root
       ∙ ap (λ b. record { state = created_with p name opts facts true b; reply = Made (p.tree.last + 1) }) is_encrypted
@@ -164,7 +137,7 @@ module _ (p : Plain) (name : List ℕ) (opts : Options) (facts : Told) (root : N
         families = ap (λ wrapped. map (λ entry. entry.0) wrapped) is.written ∙ sym (ap (λ b. cond b ((p.tree.last + 1) ∷ []) []) is_encrypted);
         opened = subst (λ (k : List ℕ). AllOpen ciphers k facts.wrapped) (sym key) (subst (λ (w : List (ℕ × List ℕ)). AllOpen ciphers root.key w) (sym is.written) one);
       } in
-      subst (λ (s : Stepped). Sound ciphers s.state) root_step (create_keeps ciphers p name opts facts sound (inr genuine))
+      subst (λ (s : Stepped). Sound ciphers s.state) root_step (keeps ciphers p (commands.Create name opts) facts sound (inr genuine))
 
   -- the state that the code makes is the step's
   pub made_state : (id : ℕ) (tree : Datasets) (roots : List (ℕ × Props)) (wrapped : List (ℕ × Stored)) (loaded : List (ℕ × List ℕ)) → id ≡ p.tree.last + 1 → tree ≡ with_row p.tree name Crypt 0
@@ -190,3 +163,62 @@ module _ (p : Plain) (name : List ℕ) (opts : Options) (facts : Told) (root : N
       let key : mkey ciphers made id ≡ ciphers.opens (new_stored id opts facts).wrapped facts.key =
       mkey_by ciphers made id id (new_stored id opts facts) facts.key (at_id-with_id id (new_stored id opts facts) p.wrapped) owner (at_id-with_id id facts.key p.loaded) in
       ap (λ m. is_some m) key ∙ ap (λ (s : Stored). is_some (ciphers.opens s.wrapped facts.key)) is.stored ∙ ap (λ (k : List ℕ). is_some (ciphers.opens root.family.wrapped k)) is.key ∙ is.opens
+
+-- ---- what a kit tells of a new root
+
+no_seed : (seed : SeedGot) → ((bytes : List ℕ) → seed ≡ seeds.Got bytes → ⊥) → seed_of seed ≡ Err EntropyFault
+no_seed seeds.NotAsked never = refl
+no_seed seeds.Fault never = refl
+no_seed (seeds.Got bytes) never = absurd (never bytes refl)
+
+module _ (p : Plain) (name : List ℕ) (opts : Options) (kit : LineKit) (format : Format) (is_root : opts.format ≡ Some format) (fetched : Result (List ℕ) Refusal)
+    (by_fetch : (iters salt : ℕ) → fetched ≡ key_of ciphers format iters salt kit.new_key) where
+  makes : makes_root opts ≡ true
+  makes = ap (λ found. is_some found) is_root
+
+  -- the key, then the seed
+  told_root : told ciphers p (commands.Create name opts) kit ≡ told_encrypted ciphers p name opts fetched (seed_of kit.seed)
+  told_root =
+      let encrypted : makes_encrypted p name opts ≡ true = ap (λ b. b || (not b && is_below_encrypted p name)) makes in
+      let salt : ℕ = new_salt ciphers opts (seed_of kit.seed) in
+      ap (λ b. cond b (told_encrypted ciphers p name opts (create_key ciphers p name opts kit) (seed_of kit.seed)) nothing_told) encrypted
+      ∙ ap (λ b. told_encrypted ciphers p name opts (cond b (key_of ciphers (new_format opts) (new_iters opts) salt kit.new_key) (Ok (parent_key p (parent_row p name)))) (seed_of kit.seed)) makes
+      ∙ ap (λ found. told_encrypted ciphers p name opts (key_of ciphers (unwrap_or found Raw) (new_iters opts) salt kit.new_key) (seed_of kit.seed)) is_root
+      ∙ ap (λ key. told_encrypted ciphers p name opts key (seed_of kit.seed)) (sym (by_fetch (new_iters opts) salt))
+
+  pub key_fault : (why : Refusal) → fetched ≡ Err why → (told ciphers p (commands.Create name opts) kit).fault ≡ Some why
+  key_fault why failed = ap (λ (facts : Told). facts.fault) (told_root ∙ ap (λ key. told_encrypted ciphers p name opts key (seed_of kit.seed)) failed)
+
+  pub seed_fault : (key : List ℕ) → fetched ≡ Ok key → ((bytes : List ℕ) → kit.seed ≡ seeds.Got bytes → ⊥) → (told ciphers p (commands.Create name opts) kit).fault ≡ Some EntropyFault
+  seed_fault key had never =
+      ap (λ (facts : Told). facts.fault)
+      (told_root ∙ ap (λ k. told_encrypted ciphers p name opts k (seed_of kit.seed)) had ∙ ap (λ seed. told_encrypted ciphers p name opts (Ok key) seed) (no_seed kit.seed never))
+
+  -- the root that key and seed make
+  pub is_told : (key seed : List ℕ) (root : NewRoot) → fetched ≡ Ok key → kit.seed ≡ seeds.Got seed
+      → root.props ≡ (let props : Props = record { format = format; place = unwrap_or opts.place Prompt; iters = new_iters opts; salt = new_salt ciphers opts (Ok seed) } in props)
+      → root.family.wrapped ≡ seeded_record ciphers (new_suite p name opts) seed key → root.family.block ≡ unwrap_or opts.block 131072 → root.key ≡ key
+      → is_some (ciphers.opens root.family.wrapped root.key) ≡ true → is_some (parsed_record root.family.wrapped) ≡ true → IsRecordSize root.family.block → KeepsIterations root.props
+      → IsToldRoot p.tree.last opts (told ciphers p (commands.Create name opts) kit) root
+  is_told key seed root had got props wrapped block own opens in_form size kept =
+      let id : ℕ = p.tree.last + 1 in
+      let facts : Told = told_encrypted ciphers p name opts (Ok key) (Ok seed) in
+      let same : told ciphers p (commands.Create name opts) kit ≡ facts =
+      told_root ∙ ap (λ k. told_encrypted ciphers p name opts k (seed_of kit.seed)) had ∙ ap (λ s. told_encrypted ciphers p name opts (Ok key) (seed_of s)) got in
+      let found : (id == id) ≡ true = grind (arith, nat_tests) in
+      let written : facts.wrapped ≡ (id, root.family.wrapped) ∷ [] = ap (λ (w : List ℕ). (id, w) ∷ []) (sym wrapped) in
+      let stored : new_stored id opts facts ≡ stored_of root.family =
+      ap (λ (w : List (ℕ × List ℕ)). let s : Stored = record { wrapped = unwrap_or (at_id id w) []; block = unwrap_or opts.block 131072 } in s) written
+      ∙ ap (λ b. let s : Stored = record { wrapped = unwrap_or (cond b (Some root.family.wrapped) None) []; block = unwrap_or opts.block 131072 } in s) found
+      ∙ ap (λ n. let s : Stored = record { wrapped = root.family.wrapped; block = n } in s) (sym block) in
+      subst (λ (t : Told). IsToldRoot p.tree.last opts t root) (sym same) (record {
+        no_fault = refl;
+        key = ap (λ b. cond b key no_key) makes ∙ sym own;
+        props = ap (λ found. let own : Props = record { format = unwrap_or found Raw; place = unwrap_or opts.place Prompt; iters = new_iters opts; salt = new_salt ciphers opts (Ok seed) } in own) is_root ∙ sym props;
+        written = written;
+        stored = stored;
+        opens = opens;
+        in_form = in_form;
+        size = size;
+        kept = kept;
+      })

@@ -1,33 +1,32 @@
 -- The key that a load's material gives, and the records that it doesn't open.
-use Rattle.std.proofs.Common.{◌≡◌, ℕ, Bool, true, false, not, ◌&&◌, List, [], ◌∷◌, Some, None, Ok, Err, Option, Result, is_some, refl, ap, sym, ◌∙◌, ⊎_elim}
+use Rattle.std.proofs.Common.{◌≡◌, inr, ℕ, Bool, true, false, not, ◌&&◌, List, [], ◌∷◌, Some, None, Ok, Err, Option, Result, is_some, refl, ap, sym, ◌∙◌, ⊎_elim}
 use Rattle.std.proofs.lemmas.Bool.{cases_Bool}
+use Rattle.std.proofs.lemmas.List.Elements.{All-nil}
 use Rattle.std.specs.Option.{option_map}
 use Rattle.std.specs.List.{find, filter}
 use Rattle.dataset_tree.specs.declared.refusal.Refusal.{Refusal}
 use Rattle.dataset_tree.specs.declared.refusal.Refusal.TheVariants.{WrongKey}
-use Rattle.encryption_roots.specs.declared.command.KeyCmd.{KeyCmd}
+use Rattle.encryption_roots.specs.declared.command.KeyCmd.TheVariants as commands
 use Rattle.key_machine.specs.Plain.{Plain, Ciphers, owner_of, is_same, owned}
-use Rattle.key_machine.specs.Refusals.{refusal_of}
-use Rattle.key_machine.specs.Told.{Told, first_wrong, told_load_with}
-use Rattle.key_machine.specs.Step.{step, refused, unless_refused, unless_faulty, unless_wrong}
+use Rattle.key_machine.specs.Load.{first_wrong, told_load_with, load_material}
+use Rattle.key_machine.specs.Refusals.{first_refusal}
+use Rattle.key_machine.specs.Told.{Told, nothing_told}
+use Rattle.key_machine.specs.Fair.{IsFair}
 use Rattle.key_store.specs.declared.state.FamilyRecord.{FamilyRecord}
-use Rattle.key_store.specs.Ciphers.{ciphers}
+use Rattle.key_ciphers.specs.Ciphers.{ciphers}
 use Rattle.key_store.specs.State.{stored_records}
 use Rattle.key_store.specs.Calls.{key_unless, key_told, is_wrong}
 
--- ---- a command whose material gives no key is refused
+-- ---- a load whose material gives no key is refused
 
-module _ (p : Plain) (command : KeyCmd) (facts : Told) (why : Refusal) where
-  by_wrong : (wrong : Option ℕ) → key_unless facts.key None wrong ≡ Err why → unless_wrong p command facts wrong ≡ refused p why
-  by_wrong None told = absurd (cc)
-  by_wrong (Some dataset) told = let same : WrongKey dataset ≡ why = cc in ap (λ w. refused p w) same
+module _ (facts : Told) (why : Refusal) where
+  by_fault : (fault : Option Refusal) (wrong : Option ℕ) → key_unless facts.key fault wrong ≡ Err why → first_refusal (fault ∷ option_map (λ dataset. WrongKey dataset) wrong ∷ []) ≡ Some why
+  by_fault None None told = absurd (cc)
+  by_fault None (Some dataset) told = let same : WrongKey dataset ≡ why = cc in ap (λ w. Some w) same
+  by_fault (Some first) wrong told = let same : first ≡ why = cc in ap (λ w. Some w) same
 
-  by_fault : (fault : Option Refusal) → key_unless facts.key fault facts.wrong ≡ Err why → unless_faulty p command facts fault ≡ refused p why
-  by_fault None told = by_wrong facts.wrong told
-  by_fault (Some first) told = let same : first ≡ why = cc in ap (λ w. refused p w) same
-
-  pub refused_by_material : refusal_of p command ≡ None → key_told facts ≡ Err why → step p command facts ≡ refused p why
-  refused_by_material accepted told = ap (unless_refused p command facts) accepted ∙ by_fault facts.fault told
+  pub material_refuses : key_told facts ≡ Err why → first_refusal (load_material facts) ≡ Some why
+  material_refuses told = by_fault facts.fault facts.wrong told
 
 -- ---- a key that is told opens each record of the root
 
@@ -60,3 +59,8 @@ module _ (c : Ciphers) (own : ℕ → Bool) (key : List ℕ) where
 pub first_wrong-find : (p : Plain) (root : ℕ) (key : List ℕ) (records : List (ℕ × FamilyRecord)) → first_wrong ciphers key (filter (λ entry. is_same root (owner_of p entry.0)) (stored_records records))
     ≡ option_map (λ entry. entry.0) (find (λ entry. is_wrong p root key entry) records)
 first_wrong-find p root key records = first_wrong-found ciphers (λ family. is_same root (owner_of p family)) key records
+
+-- ---- an unload takes nothing
+
+pub unload_fair : (p : Plain) (name : List ℕ) → IsFair ciphers p (commands.Unload name) nothing_told
+unload_fair p name = inr (record { owned = tt; families = refl; opened = All-nil _ })

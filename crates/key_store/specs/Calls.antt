@@ -9,17 +9,16 @@ use Rattle.dataset_tree.specs.declared.refusal.Stop.TheVariants as stops
 use Rattle.encryption_roots.specs.declared.command.KeyCmd.{KeyCmd}
 use Rattle.encryption_roots.specs.declared.kit.LineKit.{LineKit}
 use Rattle.key_machine.specs.Plain.{Plain, owner_of, is_same}
-use Rattle.key_machine.specs.Needs.{Wanted, wanted}
-use Rattle.key_machine.specs.Refusals.{refusal_of}
-use Rattle.key_machine.specs.Told.{Told, told}
-use Rattle.key_machine.specs.Step.{Stepped, Reply, Done, Made, Refused, step}
+use Rattle.key_machine.specs.Reply.{Stepped, Reply, Done, Made, Refused}
+use Rattle.key_machine.specs.Step.{refusal_of, wanted, told, key_step}
+use Rattle.key_machine.specs.Told.{Wanted, Told}
 use Rattle.key_store.specs.declared.needs.Needs.{Needs}
 use Rattle.key_store.specs.declared.state.FamilyRecord.{FamilyRecord}
-use Rattle.key_store.specs.Ciphers.{ciphers}
+use Rattle.key_ciphers.specs.Ciphers.{ciphers}
 
 -- the step of a command under what its kit tells
 abbrev pub stepped : Plain → KeyCmd → LineKit → Stepped
-stepped p command kit = step p command (told ciphers p command kit)
+stepped p command kit = key_step p command (told ciphers p command kit)
 
 -- what a command wants, or why the state refuses it
 abbrev pub needs_of : Wanted → Needs
@@ -31,6 +30,11 @@ needed_unless p command (Some why) = Err why
 
 abbrev pub needed : Plain → KeyCmd → Result Needs Why
 needed p command = needed_unless p command (refusal_of p command)
+
+-- the root that a command is about, or why the state refuses it
+abbrev pub GivesRoot : Result ℕ Why → (refusal : Option Why) → (found : Option ℕ) → Type 0
+GivesRoot (Ok root) refusal found = (refusal ≡ None) × (found ≡ Some root)
+GivesRoot (Err why) refusal found = refusal ≡ Some why
 
 -- the key that is told, or the first refusal for it: a fault of the material, else a record that doesn't open
 abbrev pub key_unless : List ℕ → Option Why → Option ℕ → Result (List ℕ) Why

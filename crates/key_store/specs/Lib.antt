@@ -1,4 +1,3 @@
-pub mod Ciphers
 pub mod State
 pub mod Calls
 pub mod NewRoot

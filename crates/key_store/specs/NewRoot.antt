@@ -7,16 +7,15 @@ use Rattle.encryption_roots.specs.declared.props.Options.{Options}
 use Rattle.encryption_roots.specs.Props.{KeepsIterations}
 use Rattle.encryption_roots.specs.RecordSize.{IsRecordSize}
 use Rattle.wrapped_keys.specs.Stored.{parsed_record}
+use Rattle.key_machine.specs.Create.{new_props, new_stored}
 use Rattle.key_machine.specs.Told.{Told}
-use Rattle.key_machine.specs.Step.{new_props, new_stored}
 use Rattle.key_store.specs.declared.create.NewRoot.{NewRoot}
-use Rattle.key_store.specs.Ciphers.{ciphers}
+use Rattle.key_ciphers.specs.Ciphers.{ciphers}
 use Rattle.key_store.specs.State.{stored_of}
 
 -- What is told is no fault, and is this root, behind the last id: its key, its record, which opens, and its properties, all in form.
 pub record IsToldRoot (last : ℕ) (opts : Options) (facts : Told) (root : NewRoot) : Type 0 where
   pub no_fault : facts.fault ≡ None
-  pub none_wrong : facts.wrong ≡ None
   pub key : facts.key ≡ root.key
   pub props : new_props opts facts ≡ root.props
   pub written : facts.wrapped ≡ (last + 1, root.family.wrapped) ∷ []

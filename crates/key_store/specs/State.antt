@@ -4,11 +4,12 @@ use Rattle.std.specs.List.{All}
 use Rattle.encryption_roots.specs.Props.{KeepsIterations}
 use Rattle.encryption_roots.specs.RecordSize.{IsRecordSize}
 use Rattle.wrapped_keys.specs.Stored.{parsed_record}
+use Rattle.key_machine.specs.Limits.{slot_count}
 use Rattle.key_machine.specs.Plain.{Plain, Stored}
 use Rattle.key_machine.specs.Sound.{Sound}
 use Rattle.key_store.specs.declared.state.FamilyRecord.{FamilyRecord}
 use Rattle.key_store.specs.declared.state.KeyState.TheInside.{Inside}
-use Rattle.key_store.specs.Ciphers.{ciphers}
+use Rattle.key_ciphers.specs.Ciphers.{ciphers}
 
 abbrev pub stored_of : FamilyRecord → Stored
 stored_of family = record { wrapped = family.wrapped; block = family.block }
@@ -23,7 +24,7 @@ plain_of s = record {
   roots = s.roots;
   wrapped = stored_records s.records.items;
   loaded = s.loaded.items;
-  gens = replicate 256 0;
+  gens = replicate slot_count 0;
   mapped = [];
   mounted = [];
   users = [];

@@ -5,26 +5,21 @@ ghost use Rattle.encryption_roots.specs.ById.{IsRisingById, with_id};
 ghost use Rattle.encryption_roots.specs.RecordSize.{IsRecordSize};
 ghost use Rattle.encryption_roots.specs.declared.command.KeyCmd.TheVariants as commands;
 ghost use Rattle.key_machine.specs.Plain.{mkey};
-ghost use Rattle.key_machine.specs.Needs.{parent_row};
-ghost use Rattle.key_machine.specs.Refusals.{refusal_of, are_bad_iterations};
-ghost use Rattle.key_machine.specs.Told.{new_suite, parent_suite, new_iters, new_salt, seeded_record, told};
-ghost use Rattle.key_machine.specs.Fair.{Suffices};
-ghost use Rattle.key_store.specs.Ciphers.{ciphers};
+ghost use Rattle.key_machine.specs.Create.{parent_row, are_bad_iterations, new_suite, parent_suite, new_iters, new_salt};
+ghost use Rattle.key_machine.specs.Step.{refusal_of, told};
+ghost use Rattle.key_ciphers.specs.Ciphers.{ciphers};
 ghost use Rattle.key_store.specs.Calls.{stepped, state_after, AnswersMade};
 ghost use Rattle.key_store.specs.NewRoot.{IsToldRoot, TellsFault};
 ghost use Rattle.encryption_roots.specs.Props.{KeepsIterations};
 ghost use Rattle.encryption_roots.specs.declared.props.Location.{Location};
-ghost use Rattle.wrapped_keys.specs.Stored.{parsed_record};
 
-use crate::material::fetched_key;
 use crate::needs::place_or_prompt;
-use crate::seeds::{first_vector, seeded_master, seeded_salt};
 use crate::state::{FamilyRecord, KeyState};
-use dataset_tree::{Format, Kind, NoMemory, RecordBytes, Refusal, SetName, Stop, Suite, Tree};
+use dataset_tree::{Format, Kind, NoMemory, Refusal, SetName, Stop, Suite, Tree};
 use encryption_roots::{LineKit, Options, Props, SeedGot, put_at_id};
+use key_ciphers::{fetched_key, seeded_record, seeded_salt};
 use salt_rotation::SeedWords;
 use std::alloc::AllocError;
-use wrapped_keys::wrap;
 
 /// The record size where the options have none, in bytes.
 const DEFAULT_RECORD_SIZE: u32 = 131_072;
@@ -45,11 +40,10 @@ impl KeyState {
     /// root's key is loaded, and opens its record.
     ///
     /// # Errors
-    /// Those of `needs`, then `KeyFileMissing` or `KeyFault` at the fetch, `BadMaterial`, and `EntropyFault`. After an `Err`
-    /// all is as before.
+    /// Those of `needs`, then `KeyFileMissing` or `KeyFault` at the fetch, `BadMaterial`, and `EntropyFault`. What the kit wasn't
+    /// asked for counts as a taking that failed. After an `Err` all is as before.
     pub fn create(&mut self, name: &SetName, opts: &Options, kit: &LineKit) -> Result<u32, Stop>
         requires record_size { IfSome opts.now.block IsRecordSize }
-        requires fetched { Suffices self.old (commands.Create name.now opts.now) kit.now }
         ensures reply { AnswersMade result (stepped self.old (commands.Create name.now opts.now) kit.now).reply }
         ensures state { self.new ≡ state_after result self.old (stepped self.old (commands.Create name.now opts.now) kit.now).state }
         ensures opens { IfOk result (λ id. is_some opts.now.format ≡ true → is_some (mkey ciphers self.new id) ≡ true) }
@@ -87,7 +81,6 @@ impl KeyState {
         requires accepted { refusal_of self.old (commands.Create name.now opts.now) ≡ None }
         requires root { opts.now.format ≡ Some format }
         requires record_size { IfSome opts.now.block IsRecordSize }
-        requires fetched { Suffices self.old (commands.Create name.now opts.now) kit.now }
         ensures reply { AnswersMade result (stepped self.old (commands.Create name.now opts.now) kit.now).reply }
         ensures state { self.new ≡ state_after result self.old (stepped self.old (commands.Create name.now opts.now) kit.now).state }
         ensures opens { IfOk result (λ id. is_some (mkey ciphers self.new id) ≡ true) }
@@ -114,7 +107,6 @@ impl KeyState {
         requires accepted { refusal_of self.now (commands.Create name.now opts.now) ≡ None }
         requires root { opts.now.format ≡ Some format }
         requires record_size { IfSome opts.now.block IsRecordSize }
-        requires fetched { Suffices self.now (commands.Create name.now opts.now) kit.now }
         ensures root { IfOk result (λ root. IsToldRoot self.now.tree.last opts.now (told ciphers self.now (commands.Create name.now opts.now) kit.now) root) }
         ensures fault { TellsFault (told ciphers self.now (commands.Create name.now opts.now) kit.now) result }
     {
@@ -127,7 +119,7 @@ impl KeyState {
         };
         let seed = SeedWords::new(seed);
         let props = new_props(format, opts, &seed)?;
-        let wrapped = sealed_record(&seed, self.new_suite(name, opts), &key);
+        let wrapped = seeded_record(&seed, self.new_suite(name, opts), &key);
         let block = opts.block.unwrap_or(DEFAULT_RECORD_SIZE);
         Ok(NewRoot {
             props,
@@ -158,7 +150,7 @@ impl KeyState {
 fn new_props(format: Format, opts: &Options, seed: &SeedWords) -> Result<Props, NoMemory>
     requires root { opts.now.format ≡ Some format }
     requires iterations { are_bad_iterations opts.now.iters ≡ false }
-    ensures props { IfOk result (λ props. props ≡ record { format = format; place = unwrap_or opts.now.place Location.Prompt; iters = new_iters opts.now; salt = new_salt ciphers opts.now seed.now }) }
+    ensures props { IfOk result (λ props. props ≡ record { format = format; place = unwrap_or opts.now.place Location.Prompt; iters = new_iters opts.now; salt = new_salt ciphers opts.now (Ok seed.now) }) }
     ensures kept { IfOk result KeepsIterations }
 {
     let place = place_or_prompt(opts.place.as_ref())?;
@@ -175,16 +167,6 @@ fn new_props(format: Format, opts: &Options, seed: &SeedWords) -> Result<Props, 
         iters,
         salt,
     })
-}
-
-/// The stored record of the master key that a seed makes, under a wrapping key.
-fn sealed_record(seed: &SeedWords, suite: Suite, key: &[u8; 32]) -> RecordBytes
-    ensures sealed { result ≡ seeded_record ciphers suite seed.now key.now }
-    ensures opens { is_some (ciphers.opens result key.now) ≡ true }
-    ensures in_form { is_some (parsed_record result) ≡ true }
-{
-    let master = seeded_master(seed, suite);
-    wrap(&master, key, first_vector(seed)).to_bytes()
 }
 
 /// Adds a dataset that nothing refuses.

@@ -8,13 +8,11 @@ mod create;
 mod laws;
 mod load;
 mod lookup;
-mod material;
 mod needs;
 mod property;
-mod seeds;
 mod state;
 
-pub use laws::{commands_keep_soundness, what_a_kit_tells_is_fair};
+pub use laws::commands_keep_soundness;
 pub use needs::Needs;
 pub use state::KeyState;
 

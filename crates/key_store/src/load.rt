@@ -1,21 +1,21 @@
 // Loads and unloads.
 ghost use Rattle.std.specs.Prelude.{◌≡◌, ℕ, is_some, Some, None, OnOk, OnErr};
+ghost use Rattle.std.specs.List.{find};
+ghost use Rattle.std.specs.Option.{option_copied};
 ghost use Rattle.dataset_tree.specs.Tree.{id_named};
 ghost use Rattle.encryption_roots.specs.ById.{without_id};
 ghost use Rattle.encryption_roots.specs.declared.command.KeyCmd.TheVariants as commands;
 ghost use Rattle.key_machine.specs.Plain.{owned, owner_of, is_same};
-ghost use Rattle.key_machine.specs.Told.{first_wrong, told_load_of, nothing_told};
-ghost use Rattle.key_machine.specs.Step.{step};
-ghost use Rattle.key_store.specs.Ciphers.{ciphers};
+ghost use Rattle.key_machine.specs.Load.{first_wrong, told_load_of};
+ghost use Rattle.key_machine.specs.Step.{key_step};
+ghost use Rattle.key_machine.specs.Told.{nothing_told};
+ghost use Rattle.key_ciphers.specs.Ciphers.{ciphers};
 ghost use Rattle.key_store.specs.Calls.{stepped, state_after, AnswersDone, AnswersUnloaded, key_told, is_wrong};
-ghost use Rattle.std.specs.List.{find};
-ghost use Rattle.std.specs.Option.{option_copied};
 
-use crate::material::fetched_key;
 use crate::state::{FamilyRecord, KeyState};
-use dataset_tree::{RecordBytes, Refusal, SetName, Stop};
+use dataset_tree::{Refusal, SetName, Stop};
 use encryption_roots::{LineKit, Props, owner_of, put_at_id, remove_at_id};
-use wrapped_keys::{KeyRecord, unwrap};
+use key_ciphers::{fetched_key, opened};
 
 impl KeyState {
     /// Loads the key of a root, where every record that the root owns opens under it. With `check_only` nothing changes.
@@ -28,14 +28,12 @@ impl KeyState {
         ensures state { self.new ≡ state_after result self.old (stepped self.old (commands.Load name.now check_only None) kit.now).state }
         ensures unchanged { OnErr result (self.new ≡ self.old) }
     {
-        if let Some(why) = self.load_refusal(name, check_only) {
-            return Err(Stop::Refused(why));
-        }
-        let Some(root) = self.tree.find(name) else {
-            return Err(Stop::Refused(Refusal::NoSuch));
+        let root = match self.load_root(name, check_only) {
+            Ok(root) => root,
+            Err(why) => return Err(Stop::Refused(why)),
         };
         let Some(props) = self.roots.get(root) else {
-            return Err(Stop::Refused(Refusal::NotRoot));
+            unreachable!();
         };
         let key = match self.root_key(root, props, kit) {
             Ok(key) => key,
@@ -74,7 +72,7 @@ impl KeyState {
     ) -> Option<&'a (u32, FamilyRecord)>
         ensures { option_copied result ≡ find (λ entry. is_wrong self.now root key.now entry) records.now }
     {
-        records.iter().find(|entry| self.owns(root, entry.0) && !opens(&entry.1.wrapped, key))
+        records.iter().find(|entry| self.owns(root, entry.0) && opened(&entry.1.wrapped, key).is_none())
     }
 
     /// Whether the root owns the family's record.
@@ -89,28 +87,16 @@ impl KeyState {
     /// # Errors
     /// `NoSuch`, `NotEncrypted`, `NotRoot`, and `KeyUnavailable` where the key isn't loaded. Then all is as before.
     pub fn unload(&mut self, name: &SetName) -> Result<(), Refusal>
-        ensures reply { AnswersUnloaded result (step self.old (commands.Unload name.now) nothing_told).reply }
-        ensures state { self.new ≡ (step self.old (commands.Unload name.now) nothing_told).state }
+        ensures reply { AnswersUnloaded result (key_step self.old (commands.Unload name.now) nothing_told).reply }
+        ensures state { self.new ≡ (key_step self.old (commands.Unload name.now) nothing_told).state }
         ensures key_alone { OnOk result ((root : ℕ) → id_named name.now self.old.tree.rows ≡ Some root → self.new ≡ record self.old { loaded = without_id root self.old.loaded }) }
         ensures unchanged { OnErr result (self.new ≡ self.old) }
     {
-        if let Some(why) = self.unload_refusal(name) {
-            return Err(why);
-        }
-        let Some(root) = self.tree.find(name) else {
-            return Err(Refusal::NoSuch);
+        let root = match self.unload_root(name) {
+            Ok(root) => root,
+            Err(why) => return Err(why),
         };
         remove_at_id(&mut self.loaded, root);
         Ok(())
-    }
-}
-
-/// Whether a stored record opens under the key.
-fn opens(stored: &RecordBytes, key: &[u8; 32]) -> bool
-    ensures { result ≡ is_some (ciphers.opens stored.now key.now) }
-{
-    match KeyRecord::from_bytes(stored) {
-        None => false,
-        Some(record) => unwrap(&record, key).is_ok(),
     }
 }

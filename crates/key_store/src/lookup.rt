@@ -4,8 +4,8 @@ ghost use Rattle.std.specs.Option.{option_copied, option_map};
 ghost use Rattle.dataset_tree.specs.SetName.{parent_name};
 ghost use Rattle.dataset_tree.specs.Tree.{row_named, parent_in};
 ghost use Rattle.encryption_roots.specs.ById.{at_id};
-ghost use Rattle.key_machine.specs.Plain.{is_loaded, is_root};
-ghost use Rattle.key_machine.specs.Needs.{is_encrypted_row, parent_row, is_below_encrypted};
+ghost use Rattle.key_machine.specs.Plain.{is_loaded, is_root, is_encrypted_row};
+ghost use Rattle.key_machine.specs.Create.{parent_row, is_below_encrypted};
 ghost use Rattle.key_store.specs.State.{stored_of};
 
 use crate::state::{FamilyRecord, KeyState};
@@ -73,7 +73,7 @@ fn row_in<'a>(rows: &'a [Row], name: &[u8]) -> Option<&'a Row>
 }
 
 /// Whether there is a dataset and it is encrypted.
-pub(crate) fn is_encrypted(row: Option<&Row>) -> bool
+fn is_encrypted(row: Option<&Row>) -> bool
     ensures { result ≡ is_encrypted_row (option_copied row.entry) }
 {
     match row {

@@ -1,15 +1,20 @@
 // What a command needs, and why the state refuses it.
-ghost use Rattle.std.specs.Prelude.{◌≡◌, ◌∷◌, [], false, unwrap_or, IfOk};
+ghost use Rattle.std.specs.Prelude.{◌≡◌, [], false, unwrap_or, IfOk};
 ghost use Rattle.std.specs.Option.{option_copied};
 ghost use Rattle.dataset_tree.specs.Refusal.{Gives};
 ghost use Rattle.encryption_roots.specs.declared.command.KeyCmd.TheVariants as commands;
-ghost use Rattle.key_machine.specs.Needs.{wanted, makes_heir, makes_encrypted, nothing_wanted, own_place, parent_row};
-ghost use Rattle.key_machine.specs.Refusals.{refusal_of, first_of, create_cases, root_cases, load_cases, unload_cases, get_cases, is_passphrase, are_bad_options, are_bad_iterations, has_parent_key, is_root_row, is_loaded_row};
-ghost use Rattle.key_store.specs.Calls.{needed, needs_of};
+ghost use Rattle.dataset_tree.specs.Tree.{row_named, id_named};
+ghost use Rattle.key_machine.specs.Create.{makes_heir, makes_encrypted, parent_row, create_cases, is_passphrase, are_bad_options, are_bad_iterations, has_parent_key};
+ghost use Rattle.key_machine.specs.Get.{get_cases};
+ghost use Rattle.key_machine.specs.Load.{load_cases, own_place};
+ghost use Rattle.key_machine.specs.Refusals.{first_of, root_cases};
+ghost use Rattle.key_machine.specs.Step.{refusal_of, wanted};
+ghost use Rattle.key_machine.specs.Told.{nothing_wanted};
+ghost use Rattle.key_machine.specs.Unload.{unload_cases};
+ghost use Rattle.key_store.specs.Calls.{needed, needs_of, GivesRoot};
 
-use crate::lookup::is_encrypted;
 use crate::state::{KeyState, MAX_FAMILIES};
-use dataset_tree::{Format, NoMemory, Refusal, Row, SetName, Stop};
+use dataset_tree::{Format, Kind, NoMemory, Refusal, SetName, Stop};
 use encryption_roots::{KeyCmd, Location, Options};
 
 /// The most datasets of a host.
@@ -19,6 +24,12 @@ const MAX_DATASETS: usize = 256;
 const MIN_ITERATIONS: u64 = 100_000;
 
 const MAX_ITERATIONS: u64 = 10_000_000;
+
+/// The last id that a dataset has.
+const MAX_ID: u32 = u32::MAX;
+
+/// A command that isn't built yet is refused, whatever the state.
+const NOT_BUILT: Refusal = Refusal::BadOptions;
 
 /// What a command takes beside the state.
 #[derive(Debug, Drop)]
@@ -50,7 +61,7 @@ impl KeyState {
     /// # Errors
     /// The refusal that the state decides, the first in the command's order. `create`: `Exists`, `NoParent`, `BadOptions`,
     /// `BadIters`, `KeyUnavailable`, `Full` (datasets, ids, families). `load` and `unload`: `NoSuch`, `NotEncrypted`, `NotRoot`,
-    /// then `KeyLoaded` or `KeyUnavailable`. `get`: `NoSuch`.
+    /// then `KeyLoaded` or `KeyUnavailable`. `get`: `NoSuch`. A command that isn't built yet is refused by `BadOptions`.
     pub fn needs(&self, cmd: &KeyCmd) -> Result<Needs, Stop>
         ensures { Gives result (needed self.now cmd.now) }
     {
@@ -70,10 +81,16 @@ impl KeyState {
                 name,
                 check_only,
                 ..
-            } => self.load_refusal(name, *check_only),
-            KeyCmd::Unload { name } => self.unload_refusal(name),
+            } => self.load_root(name, *check_only).err(),
+            KeyCmd::Unload { name } => self.unload_root(name).err(),
             KeyCmd::Get { name, .. } => self.get_refusal(name),
-            _ => None,
+            KeyCmd::Change { .. }
+            | KeyCmd::Inherit { .. }
+            | KeyCmd::Mount { .. }
+            | KeyCmd::Unmount { .. }
+            | KeyCmd::Clone { .. }
+            | KeyCmd::Receive { .. }
+            | KeyCmd::Destroy { .. } => Some(NOT_BUILT),
         }
     }
 
@@ -83,7 +100,15 @@ impl KeyState {
         match cmd {
             KeyCmd::Create { name, opts } => self.wanted_by_create(name, opts),
             KeyCmd::Load { name, place, .. } => self.wanted_by_load(name, place),
-            _ => Ok(Needs::nothing()),
+            KeyCmd::Unload { .. }
+            | KeyCmd::Change { .. }
+            | KeyCmd::Inherit { .. }
+            | KeyCmd::Mount { .. }
+            | KeyCmd::Unmount { .. }
+            | KeyCmd::Get { .. }
+            | KeyCmd::Clone { .. }
+            | KeyCmd::Receive { .. }
+            | KeyCmd::Destroy { .. } => Ok(Needs::nothing()),
         }
     }
 
@@ -149,9 +174,9 @@ impl KeyState {
                 limit: MAX_DATASETS as u64,
             });
         }
-        if self.tree.last() == u32::MAX {
+        if self.tree.last() == MAX_ID {
             return Some(Refusal::Full {
-                limit: u64::from(u32::MAX),
+                limit: u64::from(MAX_ID),
             });
         }
         if self.makes_encrypted(name, opts) && self.records.len() >= MAX_FAMILIES {
@@ -162,22 +187,48 @@ impl KeyState {
         None
     }
 
-    /// Why the state refuses a load.
-    pub(crate) fn load_refusal(&self, name: &SetName, check_only: bool) -> Option<Refusal>
-        ensures { result ≡ first_of (load_cases self.now name.now check_only) }
+    /// The root that a load is about, or why the state refuses it.
+    pub(crate) fn load_root(&self, name: &SetName, check_only: bool) -> Result<u32, Refusal>
+        ensures { GivesRoot result (first_of (load_cases self.now name.now check_only)) (id_named name.now self.now.tree.rows) }
     {
-        let row = self.row_named(name.as_bytes());
-        let loaded = self.is_loaded_row(row);
-        self.root_refusal(row, loaded && !check_only, Refusal::KeyLoaded)
+        let root = match self.root_named(name) {
+            Ok(root) => root,
+            Err(why) => return Err(why),
+        };
+        if self.is_loaded(root) && !check_only {
+            return Err(Refusal::KeyLoaded);
+        }
+        Ok(root)
     }
 
-    /// Why the state refuses an unload.
-    pub(crate) fn unload_refusal(&self, name: &SetName) -> Option<Refusal>
-        ensures { result ≡ first_of (unload_cases self.now name.now) }
+    /// The root that an unload is about, or why the state refuses it.
+    pub(crate) fn unload_root(&self, name: &SetName) -> Result<u32, Refusal>
+        ensures { GivesRoot result (first_of (unload_cases self.now name.now)) (id_named name.now self.now.tree.rows) }
     {
-        let row = self.row_named(name.as_bytes());
-        let loaded = self.is_loaded_row(row);
-        self.root_refusal(row, !loaded, Refusal::KeyUnavailable)
+        let root = match self.root_named(name) {
+            Ok(root) => root,
+            Err(why) => return Err(why),
+        };
+        if !self.is_loaded(root) {
+            return Err(Refusal::KeyUnavailable);
+        }
+        Ok(root)
+    }
+
+    /// The root of this name, or why there is none.
+    fn root_named(&self, name: &SetName) -> Result<u32, Refusal>
+        ensures { GivesRoot result (first_of (root_cases self.now (row_named name.now self.now.tree.rows) [])) (id_named name.now self.now.tree.rows) }
+    {
+        let Some(row) = self.row_named(name.as_bytes()) else {
+            return Err(Refusal::NoSuch);
+        };
+        if row.kind != Kind::Crypt {
+            return Err(Refusal::NotEncrypted);
+        }
+        if !self.is_root(row.id) {
+            return Err(Refusal::NotRoot);
+        }
+        Ok(row.id)
     }
 
     fn get_refusal(&self, name: &SetName) -> Option<Refusal>
@@ -187,43 +238,6 @@ impl KeyState {
             return Some(Refusal::NoSuch);
         }
         None
-    }
-
-    /// Why a command on the key of a root is refused: `why`, where the dataset is a root and `is_refused` says so.
-    fn root_refusal(&self, row: Option<&Row>, is_refused: bool, why: Refusal) -> Option<Refusal>
-        ensures { result ≡ first_of (root_cases self.now (option_copied row.entry) ((is_refused, why) ∷ [])) }
-    {
-        if row.is_none() {
-            return Some(Refusal::NoSuch);
-        }
-        if !is_encrypted(row) {
-            return Some(Refusal::NotEncrypted);
-        }
-        if !self.is_root_row(row) {
-            return Some(Refusal::NotRoot);
-        }
-        if is_refused {
-            return Some(why);
-        }
-        None
-    }
-
-    fn is_root_row(&self, row: Option<&Row>) -> bool
-        ensures { result ≡ is_root_row self.now (option_copied row.entry) }
-    {
-        match row {
-            None => false,
-            Some(row) => self.is_root(row.id),
-        }
-    }
-
-    fn is_loaded_row(&self, row: Option<&Row>) -> bool
-        ensures { result ≡ is_loaded_row self.now (option_copied row.entry) }
-    {
-        match row {
-            None => false,
-            Some(row) => self.is_loaded(row.id),
-        }
     }
 
     /// Whether the new dataset would be encrypted under the key of its parent's owner.

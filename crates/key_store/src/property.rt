@@ -6,8 +6,8 @@ ghost use Rattle.dataset_tree.specs.Tree.{row_of};
 ghost use Rattle.encryption_roots.specs.ById.{at_id};
 ghost use Rattle.encryption_roots.specs.Owners.{family};
 ghost use Rattle.key_machine.specs.Plain.{owner_of};
-ghost use Rattle.key_machine.specs.Told.{suite_of, suite_of_family};
-ghost use Rattle.key_machine.specs.Properties.{property_text, crypt_text, plain_text, format_text, place_text, status_text, none_text, owner_props};
+ghost use Rattle.key_machine.specs.Create.{suite_of, suite_of_family};
+ghost use Rattle.key_machine.specs.Get.{property_text, crypt_text, plain_text, format_text, place_text, status_text, none_text, owner_props};
 
 use crate::state::KeyState;
 use dataset_tree::{Format, Kind, NoMemory, Suite};
@@ -102,7 +102,12 @@ fn plain_text(prop: Prop) -> &'static [u8]
 {
     match prop {
         Prop::Encryption => b"off",
-        _ => NO_VALUE,
+        Prop::KeyStatus
+        | Prop::EncryptionRoot
+        | Prop::KeyFormat
+        | Prop::KeyLocation
+        | Prop::Pbkdf2Iters
+        | Prop::RecordSize => NO_VALUE,
     }
 }
 

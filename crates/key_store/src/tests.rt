@@ -1,7 +1,6 @@
 // The commands of the keystore, by calls.
 ghost use Rattle.std.specs.Prelude.{IfOk, IfSome};
 ghost use Rattle.encryption_roots.specs.RecordSize.{IsRecordSize};
-ghost use Rattle.key_machine.specs.Fair.{WasAsked, SeedWasAsked};
 
 use super::*;
 use dataset_tree::{Format, MaterialFault, Refusal, SetName, Stop, Suite};
@@ -16,9 +15,7 @@ fn name(alloc: Global, text: &str) -> Result<SetName, Fail> {
 }
 
 // So many equal bytes as the new key, and a seed of sevens.
-fn kit(alloc: Global, len: usize, byte: u8) -> Result<LineKit, Fail>
-    ensures { IfOk result (λ kit. WasAsked kit.old_key × WasAsked kit.new_key × SeedWasAsked kit.seed) }
-{
+fn kit(alloc: Global, len: usize, byte: u8) -> Result<LineKit, Fail> {
     Ok(LineKit {
         old_key: Fetched::Missing,
         new_key: Fetched::Got(Material::new(vec![in alloc; byte; len]?)),
@@ -156,7 +153,6 @@ fn a_command_needs_its_key_and_its_seed(rt: HostRuntime) -> Result<(), Fail> {
 }
 
 #[test]
-fn the_laws_can_be_called(_rt: HostRuntime) {
-    what_a_kit_tells_is_fair();
+fn the_law_can_be_called(_rt: HostRuntime) {
     commands_keep_soundness();
 }

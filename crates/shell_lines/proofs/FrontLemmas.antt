@@ -1,5 +1,7 @@
 -- Texts, and what stands behind a front of them.
-use Rattle.std.proofs.Common.{◌≡◌, ◌≢◌, ℕ, Bor, Option, Some, None, MatchOption, inl, inr, eqb, true, false, List, [], ◌∷◌, ◌++◌, refl}
+use Rattle.std.proofs.Common.{◌≡◌, ◌≢◌, ℕ, Bor, Bool, Option, Some, None, MatchOption, inl, inr, eqb, true, false, ◌||◌, List, [], ◌∷◌, ◌++◌, refl, ap}
+use Rattle.std.specs.List.{list_any}
+use Rattle.shell_lines.specs.Left.{texts}
 use Rattle.std.proofs.lemmas.Bool.Decides.{Decides-eqb, eqb_tells}
 use Rattle.std.proofs.lemmas.Slice.Eq.{bytes_eq-Decides}
 use Rattle.std.specs.Str.{bytes_eq}
@@ -52,3 +54,8 @@ other_text word text apart = by_text word text (λ e same. absurd (apart same)) 
 -- texts that the test tells apart
 pub apart : (word text : List ℕ) → bytes_eq word text ≡ false → word ≢ text
 apart word text e h = let yes : bytes_eq word text ≡ true = (bytes_eq-Decides word text).1 h in cc
+
+-- a test of texts that stand elsewhere
+pub any_text : (test : List ℕ → Bool) (words : List (Bor (List ℕ))) → list_any (λ word. test word.now) words ≡ list_any test (texts words)
+any_text test [] = refl
+any_text test (word ∷ words) = ap (λ found. test word.now || found) (any_text test words)

@@ -1,234 +1,179 @@
 -- What `line_of` gives, by the language's table.
-use Rattle.std.proofs.Common.{◌⊎◌, ◌≡◌, ◌≢◌, eqb, ltb, not, ◌||◌, is_some, Option, Some, None, get_or, ℕ, ◌<◌, inl, inr, true, false, List, [], ◌∷◌, ◌++◌, length, Result, Ok, Err, refl, ap, sym, ◌∙◌, arith, subst}
+use Rattle.std.proofs.Common.{◌⊎◌, ◌≡◌, ◌≢◌, eqb, ltb, not, Some, None, get_or, ℕ, ◌+◌, ◌<◌, inl, inr, true, false, List, [], ◌∷◌, ◌++◌, length, Result, Ok, Err, refl, ap, sym, ◌∙◌, arith, subst}
 use Rattle.std.proofs.lemmas.List.{append_assoc, append-nil}
 use Rattle.std.specs.List.{position_or_len}
 use Rattle.std.proofs.lemmas.List.Sums.{position_or_len_is}
 use Rattle.std.proofs.lemmas.Bool.Decides.{nat_tests, leb_tells, eqb_tells}
-use lib.Chars.{codes}
-use Rattle.dataset_tree.specs.declared.kinds.Format.{Format}
-use Rattle.encryption_roots.specs.declared.props.Location.{Location}
-use Rattle.encryption_roots.specs.declared.props.Prop.{Prop}
-use Rattle.encryption_roots.specs.declared.props.Prop.TheVariants.{KeyStatus, Encryption, EncryptionRoot, KeyFormat, KeyLocation, Pbkdf2Iters, RecordSize}
+use Rattle.encryption_roots.specs.Printable.{is_printable}
 use Rattle.shell_lines.specs.declared.line.Line.{Line}
-use Rattle.shell_lines.specs.declared.line.Line.TheVariants.{Silent, Create, LoadKey, UnloadKey, Get, List as ListSets}
+use Rattle.shell_lines.specs.declared.line.Line.TheVariants.{Silent}
 use Rattle.shell_lines.specs.Words.{WordAt, words_of}
-use Rattle.shell_lines.specs.Grammar.{command_of, name_from, get_of, get_from, prop_of, end_of, is_built, built_of, line_of, placed_of, is_comment, is_printable, first_unprintable}
-use Rattle.shell_lines.specs.Language.{IsLine, IsCreate, LacksLocation, IsBuilt, prop_name, CanBegin, IsWrongWord, IsFirstWrong, IsUnbuilt, IsPrintable, IsFirstUnprintable, IsComment, IsPlain, texts}
+use Rattle.shell_lines.specs.Forms.{Form, Command, forms_from, command_from, line_from}
+use Rattle.shell_lines.specs.Commands.{commands}
+use Rattle.shell_lines.specs.Grammar.{line_of, placed_of, is_comment, first_unprintable}
+use Rattle.shell_lines.specs.Language.{IsMatch, SomeMatch, Makes, CommandMatches, CommandMakes, IsWhole, IsLine, Begins, IsWrongWord, IsFirstWrong, IsPrintable, IsFirstUnprintable, IsComment, IsPlain, texts_of}
 use Rattle.shell_lines.proofs.FrontLemmas.{by_text}
-use Rattle.shell_lines.proofs.CreateLemmas.{Tells, create_tells, create_given, Begins, first_word, no_word}
-use Rattle.shell_lines.proofs.ReadLemmas.{unplaced, CanGoOn, StopsAtWord, LacksNext, command_read}
+use Rattle.shell_lines.proofs.OutcomeLemmas.{IsWrong, Outcome, FormMakes, RiseFrom, form_outcome, better_outcome, outcome_as, places, texts_split}
+use Rattle.shell_lines.proofs.RunLemmas.{words_rise}
 
--- What is given is a line of the table.
+-- ---- forms and commands
 
-name_tells : (front : List (List ℕ)) (line : List ℕ → Line) (end : ℕ) (words : List WordAt) → ((name : List ℕ) → IsLine (front ++ (name ∷ [])) (line name))
-    → Tells (front ++ texts words) (name_from end line words)
-name_tells front line end [] h = tt
-name_tells front line end (name ∷ []) h = h name.text
-name_tells front line end (name ∷ word ∷ words) h = tt
+abbrev NoForm : List (List ℕ) → List Form → ℕ → Result Line ℕ → Type 0
+NoForm options forms at given = ((more : List (List ℕ)) → ¬ SomeMatch options forms more) × ((more : List (List ℕ)) (line : Line) → ¬ Makes options forms more line) × (given ≡ Err at)
 
-abbrev IsNamed : List ℕ → Option Prop → Type 0
-IsNamed word None = Unit {0}
-IsNamed word (Some prop) = word ≡ prop_name prop
+some_form : (options : List (List ℕ)) (form : Form) (forms : List Form) (place at end : ℕ) (words : List WordAt) → RiseFrom at end words
+    → Outcome (SomeMatch options (form ∷ forms)) (Makes options (form ∷ forms)) words end (forms_from end place options (form ∷ forms) words)
+some_form options form [] place at end words rise =
+    outcome_as (IsMatch options form) (SomeMatch options (form ∷ [])) (FormMakes options form) (Makes options (form ∷ [])) words end (forms_from end place options (form ∷ []) words)
+    (λ texts h. inl h) (λ texts h. elim h [ inl one ↦ one | inr none ↦ absurd none ])
+    (λ texts line h. inl h) (λ texts line h. elim h [ inl one ↦ one | inr none ↦ absurd none.1 ])
+    (form_outcome options form end words)
+some_form options form (other ∷ forms) place at end words rise =
+    better_outcome (IsMatch options form) (SomeMatch options (other ∷ forms)) (FormMakes options form) (Makes options (other ∷ forms)) words at end _ _ rise
+    (form_outcome options form end words) (some_form options other forms place at end words rise)
 
-prop_is : (word : List ℕ) → IsNamed word (prop_of word)
-prop_is word =
-    by_text word (codes "keystatus") (λ e same. rw e same) (λ e other. rw e
-    (by_text word (codes "encryption") (λ e same. rw e same) (λ e other. rw e
-    (by_text word (codes "encryptionroot") (λ e same. rw e same) (λ e other. rw e
-    (by_text word (codes "keyformat") (λ e same. rw e same) (λ e other. rw e
-    (by_text word (codes "keylocation") (λ e same. rw e same) (λ e other. rw e
-    (by_text word (codes "pbkdf2iters") (λ e same. rw e same) (λ e other. rw e
-    (by_text word (codes "recordsize") (λ e same. rw e same) (λ e other. rw e tt)))))))))))))
+forms_outcome : (options : List (List ℕ)) (forms : List Form) (place at end : ℕ) (words : List WordAt) → RiseFrom at end words
+    → Outcome (SomeMatch options forms) (Makes options forms) words end (forms_from end place options forms words) ⊎ NoForm options forms place (forms_from end place options forms words)
+forms_outcome options [] place at end words rise = inr ((λ more h. h), (λ more line h. h), refl)
+forms_outcome options (form ∷ forms) place at end words rise = inl (some_form options form forms place at end words rise)
 
-prop_tells : (end at : ℕ) (word : List ℕ) (given : Option Prop) (words : List WordAt) → IsNamed word given → Tells (codes "get" ∷ word ∷ texts words) (get_from end at given words)
-prop_tells end at word None words h = tt
-prop_tells end at word (Some prop) words h =
-    name_tells (codes "get" ∷ word ∷ []) (λ name. Get prop name) end words (λ name. ap (λ (text : List ℕ). codes "get" ∷ text ∷ name ∷ []) h)
+record NoCommand (table : List Command) (word : WordAt) (given : Result Line ℕ) : Type 0 where
+  none : (more : List (List ℕ)) → ¬ CommandMatches table word.text more
+  makes_none : (more : List (List ℕ)) (line : Line) → ¬ CommandMakes table word.text more line
+  is : given ≡ Err word.at
 
-get_tells : (end : ℕ) (words : List WordAt) → Tells (codes "get" ∷ texts words) (get_of end words)
-get_tells end [] = tt
-get_tells end (prop ∷ words) = prop_tells end prop.at prop.text (prop_of prop.text) words (prop_is prop.text)
+abbrev CommandOutcome : List Command → WordAt → List WordAt → ℕ → Result Line ℕ → Type 0
+CommandOutcome table word words end given = Outcome (CommandMatches table word.text) (CommandMakes table word.text) words end given ⊎ NoCommand table word given
 
-list_tells : (words : List WordAt) → Tells (codes "list" ∷ texts words) (end_of ListSets words)
-list_tells [] = refl
-list_tells (word ∷ words) = tt
+this_command : (command : Command) (table : List Command) (word : WordAt) (words : List WordAt) (end : ℕ) (given : Result Line ℕ) → word.text ≡ command.word
+    → Outcome (SomeMatch command.options command.forms) (Makes command.options command.forms) words end given ⊎ NoForm command.options command.forms word.at given
+    → CommandOutcome (command ∷ table) word words end given
+this_command command table word words end given same (inl outcome) = inl
+    (outcome_as (SomeMatch command.options command.forms) (CommandMatches (command ∷ table) word.text) (Makes command.options command.forms) (CommandMakes (command ∷ table) word.text) words end given
+    (λ texts h. inl (same, h)) (λ texts h. elim h [ inl one ↦ one.1 | inr others ↦ absurd (others.0 same) ])
+    (λ texts line h. inl (same, h)) (λ texts line h. elim h [ inl one ↦ one.1 | inr others ↦ absurd (others.0 same) ])
+    outcome)
+this_command command table word words end given same (inr none) = inr (record {
+  none = λ more h. elim h [ inl one ↦ none.0 more one.1 | inr others ↦ others.0 same ];
+  makes_none = λ more line h. elim h [ inl one ↦ none.1 more line one.1 | inr others ↦ others.0 same ];
+  is = none.2;
+})
 
-tells : (end : ℕ) (words : List WordAt) → Tells (texts words) (command_of end words)
-tells end [] = refl
-tells end (command ∷ words) =
-    by_text command.text (codes "create") (λ e same. rw (e, same) (create_tells end words)) (λ e other. rw e
-    (by_text command.text (codes "load-key") (λ e same. rw (e, same) (name_tells (codes "load-key" ∷ []) (λ name. LoadKey name) end words (λ name. refl))) (λ e other. rw e
-    (by_text command.text (codes "unload-key") (λ e same. rw (e, same) (name_tells (codes "unload-key" ∷ []) (λ name. UnloadKey name) end words (λ name. refl))) (λ e other. rw e
-    (by_text command.text (codes "get") (λ e same. rw (e, same) (get_tells end words)) (λ e other. rw e
-    (by_text command.text (codes "list") (λ e same. rw (e, same) (list_tells words)) (λ e other. rw e tt)))))))))
+other_command : (command : Command) (table : List Command) (word : WordAt) (words : List WordAt) (end : ℕ) (given : Result Line ℕ) → word.text ≢ command.word
+    → CommandOutcome table word words end given → CommandOutcome (command ∷ table) word words end given
+other_command command table word words end given apart (inl outcome) = inl
+    (outcome_as (CommandMatches table word.text) (CommandMatches (command ∷ table) word.text) (CommandMakes table word.text) (CommandMakes (command ∷ table) word.text) words end given
+    (λ texts h. inr (apart, h)) (λ texts h. elim h [ inl one ↦ absurd (apart one.0) | inr others ↦ others.1 ])
+    (λ texts line h. inr (apart, h)) (λ texts line h. elim h [ inl one ↦ absurd (apart one.0) | inr others ↦ others.1 ])
+    outcome)
+other_command command table word words end given apart (inr none) = inr (record {
+  none = λ more h. elim h [ inl one ↦ apart one.0 | inr others ↦ none.none more others.1 ];
+  makes_none = λ more line h. elim h [ inl one ↦ apart one.0 | inr others ↦ none.makes_none more line others.1 ];
+  is = none.is;
+})
 
-sound : (end : ℕ) (words : List WordAt) (line : Line) → command_of end words ≡ Ok line → IsLine (texts words) line
-sound end words line e = subst (Tells (texts words)) e (tells end words)
+command_outcome : (table : List Command) (word : WordAt) (words : List WordAt) (at end : ℕ) → RiseFrom at end words → CommandOutcome table word words end (command_from end table word words)
+command_outcome [] word words at end rise = inr (record { none = λ more h. h; makes_none = λ more line h. h; is = refl })
+command_outcome (command ∷ table) word words at end rise =
+    by_text word.text command.word
+    (λ e same. rw e (this_command command table word words end (forms_from end word.at command.options command.forms words) same (forms_outcome command.options command.forms word.at at end words rise)))
+    (λ e apart. rw e (other_command command table word words end (command_from end table word words) apart (command_outcome table word words at end rise)))
 
--- A line of the table is given.
+-- ---- lines
 
-prop_given : (prop : Prop) → prop_of (prop_name prop) ≡ Some prop
-prop_given KeyStatus = refl
-prop_given Encryption = refl
-prop_given EncryptionRoot = refl
-prop_given KeyFormat = refl
-prop_given KeyLocation = refl
-prop_given Pbkdf2Iters = refl
-prop_given RecordSize = refl
+with_word : (table : List Command) (word : WordAt) (words : List WordAt) (end : ℕ) (given : Result Line ℕ) → CommandOutcome table word words end given
+    → Outcome (IsWhole table) (IsLine table) (word ∷ words) end given
+with_word table word words end given (inl (inl h)) = inl (record { line = h.line; makes = h.makes; whole = h.whole; only = h.only; is = h.is })
+with_word table word words end given (inl (inr (inl h))) = inr (inl (record {
+  before = word ∷ h.before;
+  word = h.word;
+  behind = h.behind;
+  stand = ap (λ (more : List WordAt). word ∷ more) h.stand;
+  begin = h.begin;
+  wrong = h.wrong;
+  no_line = h.no_line;
+  is = h.is;
+}))
+with_word table word words end given (inl (inr (inr h))) = inr (inr (record { begin = h.begin; no_line = h.no_line; is = h.is }))
+with_word table word words end given (inr h) = inr (inl (record {
+  before = [];
+  word = word;
+  behind = words;
+  stand = refl;
+  begin = ([], tt);
+  wrong = h.none;
+  no_line = h.makes_none (texts_of words);
+  is = h.is;
+}))
 
-name_given : (line : List ℕ → Line) (end : ℕ) (words : List WordAt) (name : List ℕ) → texts words ≡ name ∷ [] → name_from end line words ≡ Ok (line name)
-name_given line end words name h =
-    let n : Begins words name [] = first_word words name [] h in
-    let none : n.rest ≡ [] = no_word n.rest n.behind_is in
-    rw (n.stand, none) refl
+line_outcome : (table : List Command) (words : List WordAt) (at end : ℕ) → RiseFrom at end words → Outcome (IsWhole table) (IsLine table) words end (line_from end table words)
+line_outcome table [] at end rise = inl (record { line = Silent; makes = refl; whole = tt; only = λ other h. h; is = refl })
+line_outcome table (word ∷ words) at end rise =
+    with_word table word words end (command_from end table word words) (command_outcome table word words (word.at + 1) end rise.1)
 
-complete : (end : ℕ) (words : List WordAt) (line : Line) → IsLine (texts words) line → command_of end words ≡ Ok line
-complete end words Silent h = let none : words ≡ [] = no_word words h in rw none refl
-complete end words (Create name options) h =
-    let w : Begins words (codes "create") _ = first_word words (codes "create") _ h.stand in
-    let create : IsCreate (codes "create" ∷ texts w.rest) name options = subst (λ (all : List (List ℕ)). IsCreate all name options) (ap (λ (all : List WordAt). texts all) w.stand) h in
-    rw w.stand (create_given end w.rest name options create)
-complete end words (LoadKey name) h =
-    let w : Begins words (codes "load-key") (name ∷ []) = first_word words (codes "load-key") (name ∷ []) h in
-    rw w.stand (name_given (λ text. LoadKey text) end w.rest name w.behind_is)
-complete end words (UnloadKey name) h =
-    let w : Begins words (codes "unload-key") (name ∷ []) = first_word words (codes "unload-key") (name ∷ []) h in
-    rw w.stand (name_given (λ text. UnloadKey text) end w.rest name w.behind_is)
-complete end words (Get prop name) h =
-    let w : Begins words (codes "get") (prop_name prop ∷ name ∷ []) = first_word words (codes "get") (prop_name prop ∷ name ∷ []) h in
-    let p : Begins w.rest (prop_name prop) (name ∷ []) = first_word w.rest (prop_name prop) (name ∷ []) w.behind_is in
-    rw (w.stand, p.stand, prop_given prop) (name_given (λ text. Get prop text) end p.rest name p.behind_is)
-complete end words ListSets h =
-    let w : Begins words (codes "list") [] = first_word words (codes "list") [] h in
-    let none : w.rest ≡ [] = no_word w.rest w.behind_is in
-    rw (w.stand, none) refl
+-- ---- the first place where words leave the table
 
--- What begins a line still does with fewer words.
+up_to : (before : List WordAt) (word : WordAt) (behind : List WordAt) → texts_of (before ++ (word ∷ behind)) ≡ (texts_of before ++ (word.text ∷ [])) ++ texts_of behind
+up_to before word behind = texts_split before word behind ∙ sym (append_assoc (texts_of before) (word.text ∷ []) (texts_of behind))
 
-shorter : (words more : List (List ℕ)) → CanBegin (words ++ more) → CanBegin words
-shorter words more (rest, line, h) = (more ++ rest, line, subst (λ all. IsLine all line) (append_assoc words more rest) h)
+shorter : (table : List Command) (words more : List (List ℕ)) → Begins (IsWhole table) (words ++ more) → Begins (IsWhole table) words
+shorter table words more (rest, whole) = (more ++ rest, subst (IsWhole table) (append_assoc words more rest) whole)
 
-up_to : (before : List WordAt) (word : WordAt) (behind : List WordAt) → texts (before ++ (word ∷ behind)) ≡ (texts before ++ (word.text ∷ [])) ++ texts behind
-up_to [] word behind = refl
-up_to (first ∷ before) word behind = ap (λ rest. first.text ∷ rest) (up_to before word behind)
+begins_up_to : (table : List Command) (before : List WordAt) (word : WordAt) (behind : List WordAt) → Begins (IsWhole table) (texts_of (before ++ (word ∷ behind)))
+    → Begins (IsWhole table) (texts_of before ++ (word.text ∷ []))
+begins_up_to table before word behind begin = shorter table (texts_of before ++ (word.text ∷ [])) (texts_of behind) (subst (Begins (IsWhole table)) (up_to before word behind) begin)
 
-begins_up_to : (before : List WordAt) (word : WordAt) (behind : List WordAt) → CanBegin (texts (before ++ (word ∷ behind))) → CanBegin (texts before ++ (word.text ∷ []))
-begins_up_to before word behind begin = shorter (texts before ++ (word.text ∷ [])) (texts behind) (subst CanBegin (up_to before word behind) begin)
+past_wrong : (table : List Command) (words : List WordAt) (at : ℕ) → IsWrongWord table words at → ¬ Begins (IsWhole table) (texts_of words)
+past_wrong table words at w begin = w.wrong (begins_up_to table w.before w.word w.behind (subst (λ (all : List WordAt). Begins (IsWhole table) (texts_of all)) w.stand begin))
 
-past_wrong : (words : List WordAt) (at : ℕ) → IsWrongWord words at → ¬ CanBegin (texts words)
-past_wrong words at w begin = w.wrong (begins_up_to w.before w.word w.behind (subst (λ all. CanBegin (texts all)) w.stand begin))
+itself : (table : List Command) (words : List (List ℕ)) → IsWhole table words → Begins (IsWhole table) words
+itself table words whole = ([], subst (IsWhole table) (sym (append-nil words)) whole)
 
-whole : (words : List WordAt) (line : Line) → IsLine (texts words) line → CanBegin (texts words)
-whole words line h = ([], line, subst (λ all. IsLine all line) (sym (append-nil (texts words))) h)
-
--- two words of one list are one, or either stands in front of the other
-places : (a : List WordAt) (x : WordAt) (xs b : List WordAt) (y : WordAt) (ys : List WordAt) → a ++ (x ∷ xs) ≡ b ++ (y ∷ ys)
-    → (x ≡ y) ⊎ (((rest : List WordAt) × (b ≡ a ++ (x ∷ rest))) ⊎ ((rest : List WordAt) × (a ≡ b ++ (y ∷ rest))))
-places [] x xs [] y ys e = inl (cc)
-places [] x xs (v ∷ b) y ys e = inr (inl (b, let same : v ≡ x = cc in ap (λ word. word ∷ b) same))
-places (u ∷ a) x xs [] y ys e = inr (inr (a, let same : u ≡ y = cc in ap (λ word. word ∷ a) same))
-places (u ∷ a) x xs (v ∷ b) y ys e =
-    let same : u ≡ v = cc in
-    let rest : a ++ (x ∷ xs) ≡ b ++ (y ∷ ys) = cc in
-    elim (places a x xs b y ys rest) [
-      | inl one ↦ inl one
-      | inr apart ↦ elim apart [
-        | inl after ↦ inr (inl (after.0, let more : b ≡ a ++ (x ∷ after.0) = after.1 in cc))
-        | inr before ↦ inr (inr (before.0, let more : a ≡ b ++ (y ∷ before.0) = before.1 in cc))
-      ]
-    ]
-
-one_place : (words : List WordAt) (at other : ℕ) → IsWrongWord words at → IsWrongWord words other → at ≡ other
-one_place words at other w v =
+one_place : (table : List Command) (words : List WordAt) (at other : ℕ) → IsWrongWord table words at → IsWrongWord table words other → at ≡ other
+one_place table words at other w v =
     elim (places w.before w.word w.behind v.before v.word v.behind (sym w.stand ∙ v.stand)) [
-      | inl same ↦ w.offset ∙ ap (λ (word : WordAt). word.at) same ∙ sym v.offset
+      | inl same ↦ w.offset ∙ ap (λ (word : WordAt). word.at) same.1 ∙ sym v.offset
       | inr apart ↦ elim apart [
-        | inl after ↦ absurd (w.wrong (begins_up_to w.before w.word after.0 (subst (λ all. CanBegin (texts all)) after.1 v.begin)))
-        | inr before ↦ absurd (v.wrong (begins_up_to v.before v.word before.0 (subst (λ all. CanBegin (texts all)) before.1 w.begin)))
+        | inl after ↦ absurd (w.wrong (begins_up_to table w.before w.word after.0 (subst (λ (all : List WordAt). Begins (IsWhole table) (texts_of all)) after.1 v.begin)))
+        | inr before ↦ absurd (v.wrong (begins_up_to table v.before v.word before.0 (subst (λ (all : List WordAt). Begins (IsWhole table) (texts_of all)) before.1 w.begin)))
       ]
     ]
 
--- Where a reading stops, the words leave the table.
-
-texts_unplaced : (words : List (List ℕ)) → texts (unplaced words) ≡ words
-texts_unplaced [] = refl
-texts_unplaced (text ∷ words) = ap (λ (more : List (List ℕ)). text ∷ more) (texts_unplaced words)
-
-begins : (front : List (List ℕ)) → CanGoOn command_of front → CanBegin front
-begins front (more, line, e) = (more, line, subst (λ (all : List (List ℕ)). IsLine all line) (texts_unplaced (front ++ more)) (sound 0 (unplaced (front ++ more)) line e))
-
-stays_wrong : (words : List WordAt) (stop : StopsAtWord command_of words) → ¬ CanBegin (texts stop.before ++ (stop.word.text ∷ []))
-stays_wrong words stop (more, line, h) =
-    let all : List WordAt = stop.before ++ (stop.word ∷ unplaced more) in
-    let shown : texts all ≡ (texts stop.before ++ (stop.word.text ∷ [])) ++ more = up_to stop.before stop.word (unplaced more) ∙ ap (λ (rest : List (List ℕ)). (texts stop.before ++ (stop.word.text ∷ [])) ++ rest) (texts_unplaced more) in
-    let taken : command_of 0 all ≡ Ok line = complete 0 all line (subst (λ (texts : List (List ℕ)). IsLine texts line) (sym shown) h) in
-    let stopped : command_of 0 all ≡ Err stop.word.at = stop.wrong 0 (unplaced more) in
-    cc
-
-stops_wrong : (words : List WordAt) (end : ℕ) (stop : StopsAtWord command_of words) → IsFirstWrong words end stop.word.at
-stops_wrong words end stop = inl (record {
-  before = stop.before;
-  word = stop.word;
-  behind = stop.behind;
-  stand = stop.stand;
-  begin = begins (texts stop.before) stop.begin;
-  wrong = stays_wrong words stop;
+wrong_word : (table : List Command) (words : List WordAt) (given : Result Line ℕ) (h : IsWrong (IsWhole table) (IsLine table) words given) → IsWrongWord table words h.word.at
+wrong_word table words given h = record {
+  before = h.before;
+  word = h.word;
+  behind = h.behind;
+  stand = h.stand;
+  begin = h.begin;
+  wrong = λ begin. h.wrong begin.0 (subst (IsWhole table) (append_assoc (texts_of h.before) (h.word.text ∷ []) begin.0) begin.1);
   offset = refl;
-})
+}
 
-lacks_word : (words : List WordAt) (end : ℕ) → LacksNext command_of words → IsFirstWrong words end end
-lacks_word words end lack = inr (record {
-  begin = begins (texts words) lack.begin;
-  no_line = λ line h. (let taken : command_of end words ≡ Ok line = complete end words line h in let missing : command_of end words ≡ Err end = lack.missing end in cc);
-  offset = refl;
-})
+pub line_is : (table : List Command) (words : List WordAt) (end : ℕ) (given : Result Line ℕ) (line : Line) → Outcome (IsWhole table) (IsLine table) words end given → given ≡ Ok line → IsLine table (texts_of words) line
+line_is table words end given line (inl h) e = let is : given ≡ Ok h.line = h.is in let same : h.line ≡ line = cc in subst (IsLine table (texts_of words)) same h.makes
+line_is table words end given line (inr (inl h)) e = let is : given ≡ Err h.word.at = h.is in absurd (cc)
+line_is table words end given line (inr (inr h)) e = let is : given ≡ Err end = h.is in absurd (cc)
 
--- the place where the reading of the words ends in error
-stops : (words : List WordAt) (end at : ℕ) → command_of end words ≡ Err at → IsFirstWrong words end at
-stops words end at e =
-    elim (command_read words) [
-      | inl through ↦ (let taken : command_of end words ≡ Ok through.0 = through.1 end in absurd (cc))
-      | inr ended ↦ elim ended [
-        | inl stop ↦ (let here : command_of end words ≡ Err stop.word.at = ap (λ (all : List WordAt). command_of end all) stop.stand ∙ stop.wrong end stop.behind in
-            let same : stop.word.at ≡ at = cc in subst (λ (n : ℕ). IsFirstWrong words end n) same (stops_wrong words end stop))
-        | inr lack ↦ (let here : command_of end words ≡ Err end = lack.missing end in let same : end ≡ at = cc in subst (λ (n : ℕ). IsFirstWrong words end n) same (lacks_word words end lack))
-      ]
-    ]
+line_given : (table : List Command) (words : List WordAt) (end : ℕ) (given : Result Line ℕ) (line : Line) → Outcome (IsWhole table) (IsLine table) words end given → IsLine table (texts_of words) line → given ≡ Ok line
+line_given table words end given line (inl h) l = let is : given ≡ Ok h.line = h.is in let same : line ≡ h.line = h.only line l in cc
+line_given table words end given line (inr (inl h)) l = absurd (h.no_line line l)
+line_given table words end given line (inr (inr h)) l = absurd (h.no_line line l)
 
--- words that leave the table aren't a line of it
-no_line_there : (words : List WordAt) (end at : ℕ) (line : Line) → IsFirstWrong words end at → ¬ IsLine (texts words) line
-no_line_there words end at line (inl w) h = past_wrong words at w (whole words line h)
-no_line_there words end at line (inr l) h = l.no_line line h
+wrong_is : (table : List Command) (words : List WordAt) (end : ℕ) (given : Result Line ℕ) (at : ℕ) → Outcome (IsWhole table) (IsLine table) words end given → given ≡ Err at → IsFirstWrong table words end at
+wrong_is table words end given at (inl h) e = let is : given ≡ Ok h.line = h.is in absurd (cc)
+wrong_is table words end given at (inr (inl h)) e = let is : given ≡ Err h.word.at = h.is in let same : h.word.at ≡ at = cc in inl (subst (IsWrongWord table words) same (wrong_word table words given h))
+wrong_is table words end given at (inr (inr h)) e = let is : given ≡ Err end = h.is in let same : at ≡ end = cc in inr (record { begin = h.begin; no_line = h.no_line; offset = same })
 
-same_place : (words : List WordAt) (end at other : ℕ) → IsFirstWrong words end at → IsFirstWrong words end other → other ≡ at
-same_place words end at other (inl w) (inl v) = one_place words other at v w
-same_place words end at other (inl w) (inr l) = absurd (past_wrong words at w l.begin)
-same_place words end at other (inr l) (inl v) = absurd (past_wrong words other v l.begin)
-same_place words end at other (inr l) (inr m) = m.offset ∙ sym l.offset
+wrong_given : (table : List Command) (words : List WordAt) (end : ℕ) (given : Result Line ℕ) (at : ℕ) → Outcome (IsWhole table) (IsLine table) words end given → IsFirstWrong table words end at → given ≡ Err at
+wrong_given table words end given at (inl h) (inl w) = absurd (past_wrong table words at w (itself table (texts_of words) h.whole))
+wrong_given table words end given at (inl h) (inr l) = absurd (l.no_line h.line h.makes)
+wrong_given table words end given at (inr (inl h)) (inl w) = h.is ∙ ap Err (one_place table words h.word.at at (wrong_word table words given h) w)
+wrong_given table words end given at (inr (inl h)) (inr l) = absurd (past_wrong table words h.word.at (wrong_word table words given h) l.begin)
+wrong_given table words end given at (inr (inr h)) (inl w) = absurd (past_wrong table words at w h.begin)
+wrong_given table words end given at (inr (inr h)) (inr l) = h.is ∙ ap Err (sym l.offset)
 
--- What isn't built.
-
-place_tells : (format : Option Format) (place : Option Location)
-    → (((not (is_some format) || is_some place) ≡ true) × (¬ ((format ≢ None) × (place ≡ None)))) ⊎ (((not (is_some format) || is_some place) ≡ false) × ((format ≢ None) × (place ≡ None)))
-place_tells None place = inl (refl, λ h. h.0 refl)
-place_tells (Some format) None = inr (refl, ((λ e. cc), refl))
-place_tells (Some format) (Some place) = inl (refl, λ h. (let e : Some place ≡ None = h.1 in cc))
-
-built_tells : (line : Line) → ((is_built line ≡ true) × IsBuilt line) ⊎ ((is_built line ≡ false) × LacksLocation line)
-built_tells (Create name options) = place_tells options.format options.place
-built_tells Silent = inl (refl, λ h. h)
-built_tells (LoadKey name) = inl (refl, λ h. h)
-built_tells (UnloadKey name) = inl (refl, λ h. h)
-built_tells (Get prop name) = inl (refl, λ h. h)
-built_tells ListSets = inl (refl, λ h. h)
-
-built_line : (end : ℕ) (line : Line) → IsBuilt line → built_of end (Ok line) ≡ Ok line
-built_line end line built = elim (built_tells line) [ inl known ↦ rw known.0 refl | inr unbuilt ↦ absurd (built unbuilt.1) ]
-
-unbuilt_line : (end : ℕ) (line : Line) → LacksLocation line → built_of end (Ok line) ≡ Err end
-unbuilt_line end line lacks = elim (built_tells line) [ inl built ↦ absurd (built.1 lacks) | inr unbuilt ↦ rw unbuilt.0 refl ]
-
--- Bytes
+-- ---- bytes
 
 printable_passes : (byte : ℕ) → IsPrintable byte → is_printable byte ≡ true
 printable_passes byte h = grind (arith, nat_tests)
@@ -275,50 +220,29 @@ at_unprintable bytes inside at none first = rw (no_comment bytes none, one_unpri
 by_words : (bytes : List ℕ) (inside : ℕ) → IsPlain bytes → line_of bytes inside ≡ placed_of inside (length bytes) (words_of bytes)
 by_words bytes inside plain = rw (no_comment bytes plain.no_comment, all_printable bytes plain) refl
 
-outside : (end : ℕ) (words : List WordAt) → placed_of 0 end words ≡ built_of end (command_of end words)
+outside : (end : ℕ) (words : List WordAt) → placed_of 0 end words ≡ line_from end commands words
 outside end [] = refl
 outside end (word ∷ words) = refl
 
-by_command : (bytes : List ℕ) → IsPlain bytes → line_of bytes 0 ≡ built_of (length bytes) (command_of (length bytes) (words_of bytes))
-by_command bytes plain = by_words bytes 0 plain ∙ outside (length bytes) (words_of bytes)
+pub words_outcome : (bytes : List ℕ) → Outcome (IsWhole commands) (IsLine commands) (words_of bytes) (length bytes) (line_from (length bytes) commands (words_of bytes))
+words_outcome bytes = line_outcome commands (words_of bytes) 0 (length bytes) (words_rise bytes)
 
-line_built : (words : List WordAt) (end : ℕ) (given : Result Line ℕ) (line : Line) → command_of end words ≡ given → built_of end given ≡ Ok line → IsLine (texts words) line × IsBuilt line
-line_built words end (Err at) line e b = absurd (cc)
-line_built words end (Ok told) line e b =
-    elim (built_tells told) [
-      | inl built ↦ (let taken : Ok told ≡ Ok line = rw built.0 at b in let same : told ≡ line = cc in
-          (subst (IsLine (texts words)) same (sound end words told e), subst IsBuilt same built.1))
-      | inr unbuilt ↦ (let bad : Err end ≡ Ok line = rw unbuilt.0 at b in absurd (cc))
-    ]
+outcome : (bytes : List ℕ) → IsPlain bytes → Outcome (IsWhole commands) (IsLine commands) (words_of bytes) (length bytes) (line_of bytes 0)
+outcome bytes plain =
+    subst (Outcome (IsWhole commands) (IsLine commands) (words_of bytes) (length bytes)) (sym (by_words bytes 0 plain ∙ outside (length bytes) (words_of bytes)))
+    (words_outcome bytes)
 
-wrong_or_unbuilt : (words : List WordAt) (end at : ℕ) (given : Result Line ℕ) → command_of end words ≡ given → built_of end given ≡ Err at → IsFirstWrong words end at ⊎ IsUnbuilt words end at
-wrong_or_unbuilt words end at (Err place) e b = let same : place ≡ at = cc in inl (subst (λ (n : ℕ). IsFirstWrong words end n) same (stops words end place e))
-wrong_or_unbuilt words end at (Ok told) e b =
-    elim (built_tells told) [
-      | inl built ↦ (let taken : Ok told ≡ Err at = rw built.0 at b in absurd (cc))
-      | inr unbuilt ↦ (let bad : Err end ≡ Err at = rw unbuilt.0 at b in let same : at ≡ end = cc in
-          inr (record { line = told; is_line = sound end words told e; unbuilt = unbuilt.1; offset = same }))
-    ]
+pub is_line : (bytes : List ℕ) (line : Line) → IsPlain bytes → line_of bytes 0 ≡ Ok line → IsLine commands (texts_of (words_of bytes)) line
+is_line bytes line plain e = line_is commands (words_of bytes) (length bytes) (line_of bytes 0) line (outcome bytes plain) e
 
-wrong_stops : (words : List WordAt) (end at : ℕ) (given : Result Line ℕ) → command_of end words ≡ given → IsFirstWrong words end at → built_of end given ≡ Err at
-wrong_stops words end at (Ok told) e wrong = absurd (no_line_there words end at told wrong (sound end words told e))
-wrong_stops words end at (Err place) e wrong = ap Err (same_place words end at place wrong (stops words end place e))
+pub gives_line : (bytes : List ℕ) (line : Line) → IsPlain bytes → IsLine commands (texts_of (words_of bytes)) line → line_of bytes 0 ≡ Ok line
+gives_line bytes line plain l = line_given commands (words_of bytes) (length bytes) (line_of bytes 0) line (outcome bytes plain) l
 
-pub is_line : (bytes : List ℕ) (line : Line) → IsPlain bytes → line_of bytes 0 ≡ Ok line → IsLine (texts (words_of bytes)) line × IsBuilt line
-is_line bytes line plain e = line_built (words_of bytes) (length bytes) (command_of (length bytes) (words_of bytes)) line refl (sym (by_command bytes plain) ∙ e)
+pub first_wrong : (bytes : List ℕ) (at : ℕ) → IsPlain bytes → line_of bytes 0 ≡ Err at → IsFirstWrong commands (words_of bytes) (length bytes) at
+first_wrong bytes at plain e = wrong_is commands (words_of bytes) (length bytes) (line_of bytes 0) at (outcome bytes plain) e
 
-pub gives_line : (bytes : List ℕ) (line : Line) → IsPlain bytes → IsLine (texts (words_of bytes)) line × IsBuilt line → line_of bytes 0 ≡ Ok line
-gives_line bytes line plain h =
-    by_command bytes plain ∙ ap (built_of (length bytes)) (complete (length bytes) (words_of bytes) line h.0) ∙ built_line (length bytes) line h.1
-
-pub first_wrong : (bytes : List ℕ) (at : ℕ) → IsPlain bytes → line_of bytes 0 ≡ Err at → IsFirstWrong (words_of bytes) (length bytes) at ⊎ IsUnbuilt (words_of bytes) (length bytes) at
-first_wrong bytes at plain e = wrong_or_unbuilt (words_of bytes) (length bytes) at (command_of (length bytes) (words_of bytes)) refl (sym (by_command bytes plain) ∙ e)
-
-pub bad_at_first_wrong : (bytes : List ℕ) (at : ℕ) → IsPlain bytes → IsFirstWrong (words_of bytes) (length bytes) at ⊎ IsUnbuilt (words_of bytes) (length bytes) at → line_of bytes 0 ≡ Err at
-bad_at_first_wrong bytes at plain (inl wrong) = by_command bytes plain ∙ wrong_stops (words_of bytes) (length bytes) at (command_of (length bytes) (words_of bytes)) refl wrong
-bad_at_first_wrong bytes at plain (inr unbuilt) =
-    by_command bytes plain ∙ ap (built_of (length bytes)) (complete (length bytes) (words_of bytes) unbuilt.line unbuilt.is_line)
-    ∙ unbuilt_line (length bytes) unbuilt.line unbuilt.unbuilt ∙ ap Err (sym unbuilt.offset)
+pub bad_at_first_wrong : (bytes : List ℕ) (at : ℕ) → IsPlain bytes → IsFirstWrong commands (words_of bytes) (length bytes) at → line_of bytes 0 ≡ Err at
+bad_at_first_wrong bytes at plain wrong = wrong_given commands (words_of bytes) (length bytes) (line_of bytes 0) at (outcome bytes plain) wrong
 
 pub blank_line : (bytes : List ℕ) (inside : ℕ) → IsPlain bytes → words_of bytes ≡ [] → line_of bytes inside ≡ Ok Silent
 blank_line bytes inside plain none = by_words bytes inside plain ∙ ap (placed_of inside (length bytes)) none
@@ -329,3 +253,7 @@ nothing_stands inside end (word ∷ words) some any = let in_section : eqb insid
 
 pub inside_section : (bytes : List ℕ) (inside : ℕ) → IsPlain bytes → 0 < inside → words_of bytes ≢ [] → line_of bytes inside ≡ Err 0
 inside_section bytes inside plain some words = by_words bytes inside plain ∙ nothing_stands inside (length bytes) (words_of bytes) some words
+
+pub whole_line : (bytes : List ℕ) (inside : ℕ) (word : WordAt) (words : List WordAt) → is_comment bytes ≡ false → first_unprintable bytes ≡ None → inside ≡ 0 → words_of bytes ≡ word ∷ words
+    → line_of bytes inside ≡ line_from (length bytes) commands (word ∷ words)
+whole_line bytes inside word words no_comment printable outside stand = rw (no_comment, printable, outside, stand) refl

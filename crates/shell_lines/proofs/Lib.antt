@@ -1,7 +1,11 @@
 pub mod FrontLemmas
-pub mod SettingLemmas
-pub mod CreateLemmas
-pub mod ReadLemmas
-pub mod LanguageLemmas
 pub mod RunLemmas
 pub mod WordLemmas
+pub mod OptionLemmas
+pub mod SettingLemmas
+pub mod ReadLemmas
+pub mod OptionRunLemmas
+pub mod FormLemmas
+pub mod OutcomeLemmas
+pub mod LanguageLemmas
+pub mod SizeLemmas

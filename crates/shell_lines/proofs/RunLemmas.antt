@@ -1,5 +1,5 @@
 -- The words of a line are its longest runs of bytes other than spaces.
-use Rattle.std.proofs.Common.{◌≡◌, ◌≢◌, ℕ, suc, ◌+◌, ◌-◌, ◌<◌, ◌≤◌, ◌⊎◌, inl, inr, Bool, true, false, List, [], ◌∷◌, length, take, drop, get_or, refl, ap, sym, ◌∙◌, arith}
+use Rattle.std.proofs.Common.{◌≡◌, ◌≢◌, ℕ, suc, ◌+◌, ◌-◌, ◌<◌, ◌≤◌, ◌⊎◌, inl, inr, Bool, true, false, List, [], ◌∷◌, length, take, drop, get_or, refl, ap, sym, ◌∙◌, subst, arith}
 use Rattle.std.specs.List.{All, AllByRecursion}
 use Rattle.std.proofs.lemmas.Bool.{cases_lt}
 use Rattle.std.proofs.lemmas.Bool.Decides.{Decides-eqb}
@@ -7,6 +7,7 @@ use Rattle.std.proofs.lemmas.List.{drop-drop, get_or-drop, length-drop}
 use Rattle.std.proofs.lemmas.List.Elements.{All-from_recursion}
 use Rattle.shell_lines.specs.Words.{WordAt, is_space, begins_word, onto_word, words_from, words_of}
 use Rattle.shell_lines.specs.Runs.{IsRun, IsInWord, StandFrom}
+use Rattle.shell_lines.proofs.OutcomeLemmas.{RiseFrom}
 
 by_space : {P : Type 0} (b : ℕ) → (is_space b ≡ true → b ≡ 32 → P) → (is_space b ≡ false → b ≢ 32 → P) → P
 by_space {P} b space other =
@@ -162,3 +163,29 @@ found line (b ∷ bs) at e =
 
 pub words_are_runs : (line : List ℕ) → All (IsRun line) (words_of line)
 words_are_runs line = All-from_recursion (IsRun line) (words_of line) (begun line 0 (words_of line) (inl refl) (begins_word line) (found line line 0 refl))
+
+-- Words rise, and stand before the end.
+
+rise_before : (m n end : ℕ) (words : List WordAt) → m ≤ n → RiseFrom n end words → RiseFrom m end words
+rise_before m n end [] less h = omega arith
+rise_before m n end (word ∷ words) less h = (omega (arith, h.0), h.1)
+
+onto_rises : (at b end : ℕ) (words : List WordAt) → at < end → RiseFrom (at + 1) end words → RiseFrom at end (onto_word at b words)
+onto_rises at b end [] within h = (omega arith, omega arith)
+onto_rises at b end (word ∷ words) within h = (omega arith, rise_before (at + 1) (word.at + 1) end words (omega (arith, h.0)) h.1)
+
+rise_from : (at : ℕ) (bytes : List ℕ) → RiseFrom at (at + length bytes) (words_from at bytes)
+rise_from at [] = omega arith
+rise_from at (b ∷ bs) =
+    let end : at + 1 + length bs ≡ at + length (b ∷ bs) = omega arith in
+    let rest : RiseFrom (at + 1) (at + length (b ∷ bs)) (words_from (at + 1) bs) = subst (λ n. RiseFrom (at + 1) n (words_from (at + 1) bs)) end (rise_from (at + 1) bs) in
+    by_space b
+    (λ space _. rw space (rise_before at (at + 1) (at + length (b ∷ bs)) (words_from (at + 1) bs) (omega arith) rest))
+    (λ other _. rw other (by_word bs
+    (λ begins. rw begins (onto_rises at b (at + length (b ∷ bs)) (words_from (at + 1) bs) (omega arith) rest))
+    (λ gap. rw gap (omega arith, rest))))
+
+pub words_rise : (line : List ℕ) → RiseFrom 0 (length line) (words_of line)
+words_rise line =
+    let end : 0 + length line ≡ length line = omega arith in
+    subst (λ n. RiseFrom 0 n (words_of line)) end (rise_from 0 line)

@@ -1,115 +1,175 @@
--- The language of the shell's lines as a table, and the first place of a line where it is left: the law above `line_of`.
-use Rattle.std.specs.Prelude.{◌≡◌, ◌≢◌, ℕ, ◌<◌, ◌≤◌, ◌⊎◌, true, List, [], ◌∷◌, ◌++◌, length, map, slice_index}
-use Rattle.std.specs.declared.option.Option.TheVariants.{None}
-use Rattle.std.specs.List.{All, AllPairs, fold}
+-- The language as a table: which words are a line, and the first place where words leave it. The law above `line_of`.
+use Rattle.std.specs.Prelude.{◌≡◌, ◌≢◌, ℕ, ◌<◌, ◌≤◌, ◌⊎◌, true, false, List, [], ◌∷◌, ◌++◌, length, map, slice_index}
+use Rattle.std.specs.declared.option.Option.{Option}
+use Rattle.std.specs.declared.option.Option.TheVariants.{Some, None}
 use Rattle.std.specs.Fmt.{decimal}
 use lib.Chars.{codes}
 use Rattle.dataset_tree.specs.Suite.{suite_name}
 use Rattle.dataset_tree.specs.declared.kinds.Suite.TheVariants.{Aes256Gcm}
 use Rattle.dataset_tree.specs.declared.kinds.Format.TheVariants.{Raw}
-use Rattle.encryption_roots.specs.Options.{no_options}
 use Rattle.encryption_roots.specs.PathText.{is_path}
 use Rattle.encryption_roots.specs.RecordSize.{IsRecordSize}
 use Rattle.encryption_roots.specs.declared.props.Location.TheVariants.{Prompt, File}
-use Rattle.encryption_roots.specs.declared.props.Options.{Options}
 use Rattle.encryption_roots.specs.declared.props.Prop.{Prop}
 use Rattle.encryption_roots.specs.declared.props.Prop.TheVariants as props
 use Rattle.shell_lines.specs.declared.line.Line.{Line}
-use Rattle.shell_lines.specs.declared.line.Line.TheVariants.{Silent, Create, LoadKey, UnloadKey, Get, List as ListSets}
+use Rattle.shell_lines.specs.declared.line.Line.TheVariants.{Silent}
+use Rattle.shell_lines.specs.declared.setting.OptionKind.{OptionKind}
 use Rattle.shell_lines.specs.declared.setting.Setting.{Setting}
 use Rattle.shell_lines.specs.declared.setting.Setting.TheVariants.{Encryption, KeyFormat, KeyLocation, RecordSize}
-use Rattle.shell_lines.specs.Settings.{key, with_setting}
+use Rattle.shell_lines.specs.Settings.{dash, kind_of}
+use Rattle.shell_lines.specs.Reading.{WordKind, a_name, a_property, the_word, Value, has_kind, is_set, begins_option}
+use Rattle.shell_lines.specs.Forms.{Form, end_as, word_then, options_then, Command}
 use Rattle.shell_lines.specs.Words.{WordAt}
 
--- A text is a value of the setting.
-abbrev pub IsValue : List ℕ → Setting → Type 0
-IsValue value (Encryption suite) = (value ≡ suite_name suite) ⊎ ((value ≡ codes "on") × (suite ≡ Aes256Gcm))
-IsValue value (KeyFormat format) = (value ≡ codes "raw") × (format ≡ Raw)
-IsValue value (KeyLocation Prompt) = ⊥
-IsValue value (KeyLocation (File path)) = (value ≡ codes "file://" ++ path) × (is_path path ≡ true)
-IsValue value (RecordSize size) = (value ≡ decimal size) × IsRecordSize size
+abbrev pub IsAmong : List ℕ → List (List ℕ) → Type 0
+IsAmong text [] = ⊥
+IsAmong text (other ∷ texts) = (text ≡ other) ⊎ IsAmong text texts
 
--- a setting, and the word KEY=VALUE that spells it
+-- ---- words
+
+abbrev pub property_name : Prop → List ℕ
+property_name props.KeyStatus = codes "keystatus"
+property_name props.Encryption = codes "encryption"
+property_name props.EncryptionRoot = codes "encryptionroot"
+property_name props.KeyFormat = codes "keyformat"
+property_name props.KeyLocation = codes "keylocation"
+property_name props.Pbkdf2Iters = codes "pbkdf2iters"
+property_name props.RecordSize = codes "recordsize"
+
+-- a word of this kind, for a command with these options, and what it tells
+abbrev pub IsWord : List (List ℕ) → (kind : WordKind) → List ℕ → Value kind → Type 0
+IsWord options a_name word name = (word ≡ name) × (¬ IsAmong word options)
+IsWord options a_property word prop = word ≡ property_name prop
+IsWord options (the_word text) word told = word ≡ text
+
+-- ---- options
+
+-- the word behind `-o` is this key, `=`, and a value of it
+pub record IsKeyValue (word : Option (List ℕ)) (key : List ℕ) (IsValue : List ℕ → Type 0) : Type 0 where
+  pub value : List ℕ
+  pub spells : word ≡ Some (key ++ codes "=" ++ value)
+  pub is_value : IsValue value
+
+-- an option's words behind the first one, of which it has one or none, make this setting
+abbrev pub IsSpelled : Option (List ℕ) → Setting → Type 0
+IsSpelled word (Encryption suite) = IsKeyValue word (codes "encryption") (λ value. (value ≡ suite_name suite) ⊎ ((value ≡ codes "on") × (suite ≡ Aes256Gcm)))
+IsSpelled word (KeyFormat format) = IsKeyValue word (codes "keyformat") (λ value. (value ≡ codes "raw") × (format ≡ Raw))
+IsSpelled word (KeyLocation Prompt) = ⊥
+IsSpelled word (KeyLocation (File path)) = IsKeyValue word (codes "keylocation") (λ value. (value ≡ codes "file://" ++ path) × (is_path path ≡ true))
+IsSpelled word (RecordSize size) = IsKeyValue word (codes "recordsize") (λ value. (value ≡ decimal size) × IsRecordSize size)
+
+-- what stands behind an option's first word, and the setting that it makes
 abbrev pub Spelled : Type 0
-Spelled = List ℕ × Setting
+Spelled = Option (List ℕ) × Setting
 
-abbrev pub IsSpelled : Spelled → Type 0
-IsSpelled spelled = (value : List ℕ) × (spelled.0 ≡ key spelled.1 ++ codes "=" ++ value) × IsValue value spelled.1
+abbrev pub words_in : Option (List ℕ) → List (List ℕ)
+words_in None = []
+words_in (Some word) = word ∷ []
 
 -- the words of options
 abbrev pub option_words : List Spelled → List (List ℕ)
 option_words [] = []
-option_words (spelled ∷ more) = codes "-o" ∷ spelled.0 ∷ option_words more
+option_words (spelled ∷ more) = dash (kind_of spelled.1) ∷ (words_in spelled.0 ++ option_words more)
 
--- `create`, the options of settings with different keys, and a name, which is never `-o`
-pub record IsCreate (words : List (List ℕ)) (name : List ℕ) (options : Options) : Type 0 where
-  pub settings : List Spelled
-  pub stand : words ≡ codes "create" ∷ (option_words settings ++ (name ∷ []))
-  pub no_option : name ≢ codes "-o"
-  pub spelled : All IsSpelled settings
-  pub distinct : AllPairs (λ earlier later. key earlier.1 ≢ key later.1) settings
-  pub options_are : options ≡ fold (λ set spelled. with_setting spelled.1 set) no_options settings
+abbrev pub settings_of : List Spelled → List Setting
+settings_of options = map (λ spelled. spelled.1) options
 
-abbrev pub prop_name : Prop → List ℕ
-prop_name props.KeyStatus = codes "keystatus"
-prop_name props.Encryption = codes "encryption"
-prop_name props.EncryptionRoot = codes "encryptionroot"
-prop_name props.KeyFormat = codes "keyformat"
-prop_name props.KeyLocation = codes "keylocation"
-prop_name props.Pbkdf2Iters = codes "pbkdf2iters"
-prop_name props.RecordSize = codes "recordsize"
+-- options of these kinds, of which none stands twice, nor makes a setting of a kind that is set before
+abbrev pub AreNew : List OptionKind → List Setting → List Spelled → Type 0
+AreNew kinds settings [] = Unit {0}
+AreNew kinds settings (spelled ∷ more) =
+    IsSpelled spelled.0 spelled.1 × (has_kind kinds (kind_of spelled.1) ≡ true) × (is_set settings (kind_of spelled.1) ≡ false)
+    × AreNew kinds (settings ++ (spelled.1 ∷ [])) more
 
--- Words are a line of the language.
-abbrev pub IsLine : List (List ℕ) → Line → Type 0
-IsLine words Silent = words ≡ []
-IsLine words (Create name options) = IsCreate words name options
-IsLine words (LoadKey name) = words ≡ codes "load-key" ∷ name ∷ []
-IsLine words (UnloadKey name) = words ≡ codes "unload-key" ∷ name ∷ []
-IsLine words (Get prop name) = words ≡ codes "get" ∷ prop_name prop ∷ name ∷ []
-IsLine words ListSets = words ≡ codes "list" ∷ []
+-- no option that could still stand comes next
+abbrev pub NoneNext : List OptionKind → List Setting → List (List ℕ) → Type 0
+NoneNext kinds settings [] = Unit {0}
+NoneNext kinds settings (word ∷ words) = begins_option kinds settings word ≡ false
 
--- a `create` that says the key's format and not its location
-abbrev pub LacksLocation : Line → Type 0
-LacksLocation (Create name options) = (options.format ≢ None) × (options.place ≡ None)
-LacksLocation line = ⊥
+-- words that options of these kinds begin, and what stands behind the options in what is told of their settings
+pub record HasOptions (kinds : List OptionKind) (settings : List Setting) (Behind : List Setting → List (List ℕ) → Type 0) (words : List (List ℕ)) : Type 0 where
+  pub spelled : List Spelled
+  pub rest : List (List ℕ)
+  pub stand : words ≡ option_words spelled ++ rest
+  pub new : AreNew kinds settings spelled
+  pub none_next : NoneNext kinds (settings ++ settings_of spelled) rest
+  pub behind : Behind (settings ++ settings_of spelled) rest
 
--- every other line of the language
-abbrev pub IsBuilt : Line → Type 0
-IsBuilt line = ¬ LacksLocation line
+-- ---- forms and commands
 
--- some line begins with these words
-abbrev pub CanBegin : List (List ℕ) → Type 0
-CanBegin words = (more : List (List ℕ)) × (line : Line) × IsLine (words ++ more) line
+-- the form has these words, and makes this of them: nothing where its last condition fails
+abbrev pub Matches : List (List ℕ) → Form → Option Line → List (List ℕ) → Type 0
+Matches options (end_as made) line words = (words ≡ []) × (line ≡ made)
+Matches options (word_then kind next) line words =
+    (word : List ℕ) × (rest : List (List ℕ)) × (value : Value kind) × (words ≡ word ∷ rest) × IsWord options kind word value × Matches options (next value) line rest
+Matches options (options_then kinds next) line words = HasOptions kinds [] (λ settings rest. Matches options (next settings) line rest) words
 
-abbrev pub texts : List WordAt → List (List ℕ)
-texts words = map (λ word. word.text) words
+abbrev pub IsMatch : List (List ℕ) → Form → List (List ℕ) → Type 0
+IsMatch options form words = (line : Option Line) × Matches options form line words
 
--- The word at this offset can't stand behind those before it, which can begin a line.
-pub record IsWrongWord (words : List WordAt) (at : ℕ) : Type 0 where
+-- one of the forms has these words
+abbrev pub SomeMatch : List (List ℕ) → List Form → List (List ℕ) → Type 0
+SomeMatch options [] words = ⊥
+SomeMatch options (form ∷ forms) words = IsMatch options form words ⊎ SomeMatch options forms words
+
+-- the first of the forms that makes a line of these words makes this one
+abbrev pub Makes : List (List ℕ) → List Form → List (List ℕ) → Line → Type 0
+Makes options [] words line = ⊥
+Makes options (form ∷ forms) words line =
+    Matches options form (Some line) words ⊎ (((other : Line) → ¬ Matches options form (Some other) words) × Makes options forms words line)
+
+-- the same of the first command with this word
+abbrev pub CommandMatches : List Command → List ℕ → List (List ℕ) → Type 0
+CommandMatches [] word words = ⊥
+CommandMatches (command ∷ commands) word words =
+    ((word ≡ command.word) × SomeMatch command.options command.forms words) ⊎ ((word ≢ command.word) × CommandMatches commands word words)
+
+abbrev pub CommandMakes : List Command → List ℕ → List (List ℕ) → Line → Type 0
+CommandMakes [] word words line = ⊥
+CommandMakes (command ∷ commands) word words line =
+    ((word ≡ command.word) × Makes command.options command.forms words line) ⊎ ((word ≢ command.word) × CommandMakes commands word words line)
+
+-- ---- lines
+
+-- the words are of a form, or none
+abbrev pub IsWhole : List Command → List (List ℕ) → Type 0
+IsWhole commands [] = Unit {0}
+IsWhole commands (word ∷ words) = CommandMatches commands word words
+
+-- the words are this line
+abbrev pub IsLine : List Command → List (List ℕ) → Line → Type 0
+IsLine commands [] line = line ≡ Silent
+IsLine commands (word ∷ words) line = CommandMakes commands word words line
+
+-- a front of what has this property
+abbrev pub Begins : (List (List ℕ) → Type 0) → List (List ℕ) → Type 0
+Begins Has words = (more : List (List ℕ)) × Has (words ++ more)
+
+abbrev pub texts_of : List WordAt → List (List ℕ)
+texts_of words = map (λ word. word.text) words
+
+-- The word at this offset can't stand behind those before it, behind which others can.
+pub record IsWrongWord (commands : List Command) (words : List WordAt) (at : ℕ) : Type 0 where
   pub before : List WordAt
   pub word : WordAt
   pub behind : List WordAt
   pub stand : words ≡ before ++ (word ∷ behind)
-  pub begin : CanBegin (texts before)
-  pub wrong : ¬ CanBegin (texts before ++ (word.text ∷ []))
+  pub begin : Begins (IsWhole commands) (texts_of before)
+  pub wrong : ¬ Begins (IsWhole commands) (texts_of before ++ (word.text ∷ []))
   pub offset : at ≡ word.at
 
 -- The words can begin a line and are none: a word is missing where they end.
-pub record LacksWord (words : List WordAt) (end at : ℕ) : Type 0 where
-  pub begin : CanBegin (texts words)
-  pub no_line : (line : Line) → ¬ IsLine (texts words) line
-  pub offset : at ≡ end
-
--- The words are a line of the language that isn't built yet: it is bad where it ends.
-pub record IsUnbuilt (words : List WordAt) (end at : ℕ) : Type 0 where
-  pub line : Line
-  pub is_line : IsLine (texts words) line
-  pub unbuilt : LacksLocation line
+pub record LacksWord (commands : List Command) (words : List WordAt) (end at : ℕ) : Type 0 where
+  pub begin : Begins (IsWhole commands) (texts_of words)
+  pub no_line : (line : Line) → ¬ IsLine commands (texts_of words) line
   pub offset : at ≡ end
 
 -- the first place, from the left, where the words of a line of so many bytes leave the language
-abbrev pub IsFirstWrong : List WordAt → ℕ → ℕ → Type 0
-IsFirstWrong words end at = IsWrongWord words at ⊎ LacksWord words end at
+abbrev pub IsFirstWrong : List Command → List WordAt → ℕ → ℕ → Type 0
+IsFirstWrong commands words end at = IsWrongWord commands words at ⊎ LacksWord commands words end at
+
+-- ---- bytes
 
 -- from space to `~`
 abbrev pub IsPrintable : ℕ → Type 0

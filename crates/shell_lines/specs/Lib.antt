@@ -1,7 +1,10 @@
 pub mod Words
+pub mod Runs
 pub mod Settings
+pub mod Reading
+pub mod Forms
+pub mod Commands
 pub mod Grammar
 pub mod Language
 pub mod Left
-pub mod Runs
 pub mod Sized

@@ -1,39 +1,41 @@
--- The settings of a `create`: the key of each, what it does to the options, and the one that a word KEY=VALUE spells.
-use Rattle.std.specs.Prelude.{ℕ, Bool, ◌&&◌, ◌||◌, ◌==◌, List, [], ◌∷◌, if◌then◌else◌, is_some}
+-- The options of the language: the word that begins each, and the setting that its words spell.
+use Rattle.std.specs.Prelude.{ℕ, ◌||◌, ◌==◌, List, [], ◌∷◌, if◌then◌else◌}
 use Rattle.std.specs.declared.option.Option.{Option}
 use Rattle.std.specs.declared.option.Option.TheVariants.{Some, None}
+use Rattle.std.specs.List.{fold}
 use Rattle.std.specs.Str.{bytes_eq}
 use lib.Chars.{codes}
 use Rattle.dataset_tree.specs.declared.kinds.Suite.TheVariants.{Aes128Gcm, Aes192Gcm, Aes256Gcm}
 use Rattle.dataset_tree.specs.declared.kinds.Format.TheVariants.{Raw}
+use Rattle.encryption_roots.specs.Options.{no_options}
 use Rattle.encryption_roots.specs.PathText.{path_of}
 use Rattle.encryption_roots.specs.declared.props.Location.TheVariants.{File}
 use Rattle.encryption_roots.specs.declared.props.Options.{Options}
+use Rattle.shell_lines.specs.declared.setting.OptionKind.{OptionKind}
+use Rattle.shell_lines.specs.declared.setting.OptionKind.TheVariants as kinds
 use Rattle.shell_lines.specs.declared.setting.Setting.{Setting}
 use Rattle.shell_lines.specs.declared.setting.Setting.TheVariants.{Encryption, KeyFormat, KeyLocation, RecordSize}
 
-abbrev pub key : Setting → List ℕ
-key (Encryption suite) = codes "encryption"
-key (KeyFormat format) = codes "keyformat"
-key (KeyLocation place) = codes "keylocation"
-key (RecordSize size) = codes "recordsize"
+-- the word that begins an option of this kind
+abbrev pub dash : OptionKind → List ℕ
+dash kinds.Encryption = codes "-o"
+dash kinds.KeyFormat = codes "-o"
+dash kinds.KeyLocation = codes "-o"
+dash kinds.RecordSize = codes "-o"
 
--- the options have a value for the setting's key
-abbrev pub is_set : Setting → Options → Bool
-is_set (Encryption suite) options = is_some options.suite
-is_set (KeyFormat format) options = is_some options.format
-is_set (KeyLocation place) options = is_some options.place
-is_set (RecordSize size) options = is_some options.block
+-- what tells this kind from the others
+abbrev pub key : OptionKind → List ℕ
+key kinds.Encryption = codes "encryption"
+key kinds.KeyFormat = codes "keyformat"
+key kinds.KeyLocation = codes "keylocation"
+key kinds.RecordSize = codes "recordsize"
 
-abbrev pub with_setting : Setting → Options → Options
-with_setting (Encryption suite) options = record options { suite = Some suite }
-with_setting (KeyFormat format) options = record options { format = Some format }
-with_setting (KeyLocation place) options = record options { place = Some place }
-with_setting (RecordSize size) options = record options { block = Some size }
-
--- no key is left
-abbrev pub is_full : Options → Bool
-is_full options = is_some options.suite && is_some options.format && is_some options.place && is_some options.block
+-- the kind of option that makes this setting
+abbrev pub kind_of : Setting → OptionKind
+kind_of (Encryption suite) = kinds.Encryption
+kind_of (KeyFormat format) = kinds.KeyFormat
+kind_of (KeyLocation place) = kinds.KeyLocation
+kind_of (RecordSize size) = kinds.RecordSize
 
 -- what stands behind a front in a text
 abbrev pub behind : List ℕ → List ℕ → Option (List ℕ)
@@ -78,18 +80,24 @@ record_size_value value =
     else if bytes_eq value (codes "131072") then Some (RecordSize 131072)
     else None
 
--- the setting that a word spells
-abbrev pub setting_of : List ℕ → Option Setting
-setting_of word =
+-- the setting that a word KEY=VALUE spells
+abbrev pub key_value : List ℕ → Option Setting
+key_value word =
     read_behind (behind (codes "encryption=") word) suite_value
     (read_behind (behind (codes "keyformat=") word) format_value
     (read_behind (behind (codes "keylocation=") word) place_value
     (read_behind (behind (codes "recordsize=") word) record_size_value None)))
 
-abbrev pub with_new : Option Setting → Options → Option Options
-with_new None options = None
-with_new (Some setting) options = if is_set setting options then None else Some (with_setting setting options)
+-- The setting that an option's words spell: the word that begins it, and the one behind, where it has one.
+abbrev pub setting_of : List ℕ → Option (List ℕ) → Option Setting
+setting_of first None = None
+setting_of first (Some word) = if bytes_eq first (codes "-o") then key_value word else None
 
--- the options with one more setting: none where the word spells none, or its key is set already
-abbrev pub option_of : List ℕ → Options → Option Options
-option_of word options = with_new (setting_of word) options
+abbrev pub with_setting : Options → Setting → Options
+with_setting options (Encryption suite) = record options { suite = Some suite }
+with_setting options (KeyFormat format) = record options { format = Some format }
+with_setting options (KeyLocation place) = record options { place = Some place }
+with_setting options (RecordSize size) = record options { block = Some size }
+
+abbrev pub options_with : List Setting → Options
+options_with settings = fold with_setting no_options settings

@@ -1,15 +1,9 @@
--- Settings, options and lines whose record size, where they have one, is in form.
+-- Lines whose record size, where they have one, is in form.
 use Rattle.std.specs.Prelude.{IfSome}
 use Rattle.encryption_roots.specs.RecordSize.{IsRecordSize}
 use Rattle.encryption_roots.specs.declared.props.Options.{Options}
 use Rattle.shell_lines.specs.declared.line.Line.{Line}
 use Rattle.shell_lines.specs.declared.line.Line.TheVariants.{Create}
-use Rattle.shell_lines.specs.declared.setting.Setting.{Setting}
-use Rattle.shell_lines.specs.declared.setting.Setting.TheVariants.{RecordSize}
-
-abbrev pub SetsRecordSize : Setting → Type 0
-SetsRecordSize (RecordSize size) = IsRecordSize size
-SetsRecordSize setting = Unit {0}
 
 abbrev pub SizedOptions : Options → Type 0
 SizedOptions options = IfSome options.block IsRecordSize

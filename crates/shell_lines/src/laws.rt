@@ -1,22 +1,29 @@
 // Laws of the language, above the definitions that `parse_line` is proved against.
-ghost use Rattle.std.specs.Prelude.{◌≡◌, ◌≢◌, ℕ, ◌<◌, ◌↔◌, ◌⊎◌, List, [], length, slice_index};
+ghost use Rattle.std.specs.Prelude.{◌≡◌, ◌≢◌, ℕ, ◌<◌, ◌↔◌, List, [], length, slice_index};
 ghost use Rattle.std.specs.List.{All};
 ghost use Rattle.shell_lines.specs.declared.line.Line.{Line};
 ghost use Rattle.shell_lines.specs.declared.line.Line.TheVariants.{Silent};
 ghost use Rattle.shell_lines.specs.Words.{words_of};
 ghost use Rattle.shell_lines.specs.Runs.{IsRun, IsInWord, StandFrom};
+ghost use Rattle.shell_lines.specs.Commands.{commands};
 ghost use Rattle.shell_lines.specs.Grammar.{line_of};
-ghost use Rattle.shell_lines.specs.Language.{IsLine, IsBuilt, IsFirstWrong, IsUnbuilt, IsFirstUnprintable, IsComment, IsPlain, texts};
+ghost use Rattle.shell_lines.specs.Language.{IsLine, IsFirstWrong, IsFirstUnprintable, IsComment, IsPlain, texts_of};
+ghost use Rattle.shell_lines.specs.Sized.{HasRecordSize};
 
 /// The law of the offset at which bytes stop to spell a line: it is that of the first byte outside 0x20 to 0x7e, else of the
-/// first word that can't stand where it stands, else, where a word is missing or the line isn't built yet, the line's length.
+/// first word that can't stand where it stands, else, where a word is missing, the line's length.
 pub fn bad_at_the_first_wrong_word()
     ensures comment { (bytes : List ℕ) (inside : ℕ) → IsComment bytes → line_of bytes inside ≡ Ok Silent }
     ensures unprintable { (bytes : List ℕ) (inside at : ℕ) → ¬ IsComment bytes → IsFirstUnprintable bytes at → line_of bytes inside ≡ Err at }
-    ensures line { (bytes : List ℕ) (line : Line) → IsPlain bytes → (line_of bytes 0 ≡ Ok line ↔ IsLine (texts (words_of bytes)) line × IsBuilt line) }
-    ensures wrong { (bytes : List ℕ) (at : ℕ) → IsPlain bytes → (line_of bytes 0 ≡ Err at ↔ IsFirstWrong (words_of bytes) (length bytes) at ⊎ IsUnbuilt (words_of bytes) (length bytes) at) }
+    ensures line { (bytes : List ℕ) (line : Line) → IsPlain bytes → (line_of bytes 0 ≡ Ok line ↔ IsLine commands (texts_of (words_of bytes)) line) }
+    ensures wrong { (bytes : List ℕ) (at : ℕ) → IsPlain bytes → (line_of bytes 0 ≡ Err at ↔ IsFirstWrong commands (words_of bytes) (length bytes) at) }
     ensures blank { (bytes : List ℕ) (inside : ℕ) → IsPlain bytes → words_of bytes ≡ [] → line_of bytes inside ≡ Ok Silent }
     ensures inside { (bytes : List ℕ) (inside : ℕ) → IsPlain bytes → 0 < inside → words_of bytes ≢ [] → line_of bytes inside ≡ Err 0 }
+{}
+
+/// The law of record sizes: that of a line, where it has one, is in form.
+pub fn record_sizes_are_in_form()
+    ensures { (bytes : List ℕ) (inside : ℕ) (line : Line) → line_of bytes inside ≡ Ok line → HasRecordSize line }
 {}
 
 /// The law of a line's words: they are its longest runs of bytes other than spaces, each of them once, from left to right.

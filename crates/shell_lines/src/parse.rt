@@ -1,16 +1,29 @@
 // From the bytes of a line to what it says.
-ghost use Rattle.std.specs.Prelude.{◌≡◌, ◌<◌, ◌≤◌, ◌∷◌, false, length, IfOk, Ok as Says};
-ghost use Rattle.shell_lines.specs.declared.line.Line.TheVariants.{LoadKey, UnloadKey};
-ghost use Rattle.shell_lines.specs.Grammar.{Spells, line_of, is_comment, is_printable, first_unprintable, create_from, name_from, prop_of, get_of, end_of, is_built, built_of, command_of, placed_of};
-ghost use Rattle.shell_lines.specs.Left.{words_left, placed};
-ghost use Rattle.shell_lines.specs.Sized.{HasRecordSize, SizedOptions};
-ghost use Rattle.encryption_roots.specs.Options.{no_options};
+ghost use Rattle.std.specs.Prelude.{◌≡◌, ◌<◌, ◌^◌, ◌∷◌, [], List, ℕ, length, map, IfOk};
+ghost use Rattle.std.specs.List.{list_any};
+ghost use Rattle.shell_lines.specs.declared.line.Line.{Line};
+ghost use Rattle.shell_lines.specs.Sized.{HasRecordSize};
+ghost use Rattle.shell_lines.specs.Grammar.{Spells, line_of, is_comment, first_unprintable};
+ghost use Rattle.std.specs.Str.{bytes_eq};
+ghost use Rattle.shell_lines.specs.Left.{words_left, end_of, placed, texts, Reads};
+ghost use Rattle.shell_lines.specs.Commands.{commands, create, create_form, get_form, created};
+ghost use Rattle.shell_lines.specs.Forms.{line_from, form_from, end_from};
+ghost use Rattle.shell_lines.specs.Reading.{word_from, a_name, a_property, property_of};
 
 use crate::line::{Line, LineStop, Word};
-use crate::setting::{is_full, parse_setting, with_new};
+use crate::option::parse_options;
+use crate::setting::{OptionKind, options_with};
 use crate::words::{PlacedWord, Words};
 use encryption_roots::{Options, Prop};
 use std::alloc::Global;
+
+/// The options of `create`.
+const CREATE_OPTIONS: [OptionKind; 4] = [
+    OptionKind::Encryption,
+    OptionKind::KeyFormat,
+    OptionKind::KeyLocation,
+    OptionKind::RecordSize,
+];
 
 /// The line that these bytes spell, without its line feed, in a section of `inside` workers, or outside one where that is 0.
 ///
@@ -18,7 +31,7 @@ use std::alloc::Global;
 /// `Bad` exactly where they spell no line of the language, with the offset of the first byte outside 0x20 to 0x7e, else of
 /// the first word that can't stand where it stands, else, where a word is missing, with the line's length.
 pub fn parse_line(alloc: Global, bytes: &[u8], inside: u32) -> Result<Line, LineStop>
-    requires { length bytes.now ≤ 65536 }
+    requires { length bytes.now < 2 ^ 32 }
     ensures spells { Spells result (line_of bytes.now inside) }
     ensures record_size { IfOk result HasRecordSize }
 {
@@ -35,12 +48,7 @@ pub fn parse_line(alloc: Global, bytes: &[u8], inside: u32) -> Result<Line, Line
     if inside != 0 {
         return Err(LineStop::Bad { at: 0 });
     }
-    let end = words.end();
-    let line = parse_command(alloc, command, words)?;
-    if !is_built(&line) {
-        return Err(LineStop::Bad { at: end as u32 });
-    }
-    Ok(line)
+    parse_command(alloc, command, words)
 }
 
 fn is_comment(bytes: &[u8]) -> bool
@@ -56,104 +64,92 @@ fn first_unprintable(bytes: &[u8]) -> Option<usize>
     bytes.iter().position(|byte| !matches!(byte, b' '..=b'~'))
 }
 
-fn parse_command(alloc: Global, command: PlacedWord<'_>, words: Words<'_>) -> Result<Line, LineStop>
-    ensures spells { Spells result (command_of (length words.entry.line.now) (placed command.entry ∷ words_left words.entry)) }
-    ensures record_size { IfOk result HasRecordSize }
+fn parse_command(
+    alloc: Global,
+    command: PlacedWord<'_>,
+    mut words: Words<'_>,
+) -> Result<Line, LineStop>
+    ensures { Spells result (line_from (end_of words.entry) commands (placed command.entry ∷ words_left words.entry)) }
 {
     if command.text == b"create".as_slice() {
-        parse_create(alloc, Options::none(), words)
+        parse_create(alloc, words)
     } else if command.text == b"load-key".as_slice() {
-        parse_load_key(alloc, words)
+        let name = parse_name(alloc, &[b"-n", b"-L", b"-r", b"-a"], &mut words)?;
+        parse_end(Some(Line::LoadKey { name }), words)
     } else if command.text == b"unload-key".as_slice() {
-        parse_unload_key(alloc, words)
+        let name = parse_name(alloc, &[b"-r", b"-a"], &mut words)?;
+        parse_end(Some(Line::UnloadKey { name }), words)
     } else if command.text == b"get".as_slice() {
         parse_get(alloc, words)
     } else if command.text == b"list".as_slice() {
-        parse_end(Line::List, words)
+        parse_end(Some(Line::List), words)
     } else {
-        Err(bad_at(command))
+        Err(command.wrong())
     }
 }
 
-/// What is left of a `create` behind these options.
-fn parse_create(alloc: Global, options: Options, mut words: Words<'_>) -> Result<Line, LineStop>
-    requires { SizedOptions options }
-    ensures spells { Spells result (create_from (length words.entry.line.now) false options (words_left words.entry)) }
-    ensures record_size { IfOk result HasRecordSize }
+/// `create`, options, `NAME`
+fn parse_create(alloc: Global, mut words: Words<'_>) -> Result<Line, LineStop>
+    ensures { Spells result (form_from (end_of words.entry) create.options create_form (words_left words.entry)) }
 {
-    let Some(word) = words.next() else {
-        return Err(missing(&words));
-    };
-    if word.text != b"-o".as_slice() {
-        let name = Word::from_slice(alloc, word.text)?;
-        return parse_end(
-            Line::Create {
-                name,
-                opts: options,
-            },
-            words,
-        );
-    }
-    if is_full(&options) {
-        return Err(bad_at(word));
-    }
-    let Some(text) = words.next() else {
-        return Err(missing(&words));
-    };
-    let Some(setting) = parse_setting(alloc, text.text)? else {
-        return Err(bad_at(text));
-    };
-    let Some(options) = with_new(setting, options) else {
-        return Err(bad_at(text));
-    };
-    parse_create(alloc, options, words)
+    let settings = parse_options(alloc, &CREATE_OPTIONS, &mut words)?;
+    let name = parse_name(alloc, &[b"-o"], &mut words)?;
+    parse_end(created(name, options_with(settings)), words)
 }
 
-/// `load-key NAME`
-fn parse_load_key(alloc: Global, mut words: Words<'_>) -> Result<Line, LineStop>
-    ensures spells { Spells result (name_from (length words.entry.line.now) (λ name. LoadKey name) (words_left words.entry)) }
-    ensures record_size { IfOk result HasRecordSize }
+/// A key in a format is built only from a file.
+fn created(name: Word, opts: Options) -> Option<Line>
+    ensures { result ≡ created name opts }
 {
-    let Some(name) = words.next() else {
-        return Err(missing(&words));
-    };
-    let name = Word::from_slice(alloc, name.text)?;
-    parse_end(Line::LoadKey { name }, words)
-}
-
-/// `unload-key NAME`
-fn parse_unload_key(alloc: Global, mut words: Words<'_>) -> Result<Line, LineStop>
-    ensures spells { Spells result (name_from (length words.entry.line.now) (λ name. UnloadKey name) (words_left words.entry)) }
-    ensures record_size { IfOk result HasRecordSize }
-{
-    let Some(name) = words.next() else {
-        return Err(missing(&words));
-    };
-    let name = Word::from_slice(alloc, name.text)?;
-    parse_end(Line::UnloadKey { name }, words)
+    if opts.format.is_some() && opts.place.is_none() {
+        return None;
+    }
+    Some(Line::Create { name, opts })
 }
 
 /// `get PROP NAME`
 fn parse_get(alloc: Global, mut words: Words<'_>) -> Result<Line, LineStop>
-    ensures spells { Spells result (get_of (length words.entry.line.now) (words_left words.entry)) }
-    ensures record_size { IfOk result HasRecordSize }
+    ensures { Spells result (form_from (end_of words.entry) [] get_form (words_left words.entry)) }
+{
+    let prop = parse_property(&mut words)?;
+    let name = parse_name(alloc, &[], &mut words)?;
+    parse_end(Some(Line::Get { prop, name }), words)
+}
+
+/// The name that stands next, for a command with these options.
+fn parse_name(alloc: Global, options: &[&[u8]], words: &mut Words<'_>) -> Result<Word, LineStop>
+    ensures reads { Reads result (words_left words.new) (word_from (end_of words.old) (texts options.now) a_name (words_left words.old)) }
+    ensures end { end_of words.new ≡ end_of words.old }
 {
     let Some(word) = words.next() else {
-        return Err(missing(&words));
+        return Err(words.missing());
     };
-    let Some(prop) = prop_of(word.text) else {
-        return Err(bad_at(word));
+    if is_option(options, word.text) {
+        return Err(word.wrong());
+    }
+    Ok(Word::from_slice(alloc, word.text)?)
+}
+
+fn is_option(options: &[&[u8]], word: &[u8]) -> bool
+    ensures { result ≡ list_any (λ option. bytes_eq option word.now) (texts options.now) }
+{
+    options.contains(&word)
+}
+
+/// The property that stands next.
+fn parse_property(words: &mut Words<'_>) -> Result<Prop, LineStop>
+    ensures reads { Reads result (words_left words.new) (word_from (end_of words.old) [] a_property (words_left words.old)) }
+    ensures end { end_of words.new ≡ end_of words.old }
+{
+    let Some(word) = words.next() else {
+        return Err(words.missing());
     };
-    let Some(name) = words.next() else {
-        return Err(missing(&words));
-    };
-    let name = Word::from_slice(alloc, name.text)?;
-    parse_end(Line::Get { prop, name }, words)
+    property_of(word.text).ok_or(word.wrong())
 }
 
 /// The property of this name.
-fn prop_of(word: &[u8]) -> Option<Prop>
-    ensures { result ≡ prop_of word.now }
+fn property_of(word: &[u8]) -> Option<Prop>
+    ensures { result ≡ property_of word.now }
 {
     if word == b"keystatus".as_slice() {
         return Some(Prop::KeyStatus);
@@ -179,40 +175,15 @@ fn prop_of(word: &[u8]) -> Option<Prop>
     None
 }
 
-/// The line, where no word is left.
-fn parse_end(line: Line, mut words: Words<'_>) -> Result<Line, LineStop>
-    requires { HasRecordSize line }
-    ensures spells { Spells result (end_of line (words_left words.entry)) }
-    ensures record_size { IfOk result HasRecordSize }
+/// What the words in front make, where no word is left: `None` lacks a word.
+fn parse_end(made: Option<Line>, mut words: Words<'_>) -> Result<Line, LineStop>
+    ensures { Spells result (end_from (end_of words.entry) made (words_left words.entry)) }
 {
-    match words.next() {
-        None => Ok(line),
-        Some(word) => Err(bad_at(word)),
+    if let Some(word) = words.next() {
+        return Err(word.wrong());
     }
-}
-
-/// A key in a format is built only from a file.
-fn is_built(line: &Line) -> bool
-    ensures { result ≡ is_built line.now }
-{
-    match line {
-        Line::Create { opts, .. } => opts.format.is_none() || opts.place.is_some(),
-        _ => true,
-    }
-}
-
-/// The word can't stand where it stands.
-fn bad_at(word: PlacedWord<'_>) -> LineStop
-    ensures { result ≡ LineStop.Bad word.entry.at }
-{
-    LineStop::Bad { at: word.at as u32 }
-}
-
-/// A word is missing where the line ends.
-fn missing(words: &Words<'_>) -> LineStop
-    ensures { result ≡ LineStop.Bad (length words.now.line.now) }
-{
-    LineStop::Bad {
-        at: words.end() as u32,
+    match made {
+        Some(line) => Ok(line),
+        None => Err(words.missing()),
     }
 }

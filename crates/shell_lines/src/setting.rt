@@ -1,14 +1,53 @@
-// The settings of a `create`, and the words that spell them.
-ghost use Rattle.std.specs.Prelude.{◌≡◌, IfOk, IfSome, MatchOption};
+// The options of commands, and the words that spell them.
+ghost use Rattle.std.specs.Prelude.{◌≡◌, IfOk, MatchOption};
 ghost use Rattle.std.specs.declared.option.Option.TheVariants.{Some as Found, None as Missing};
-ghost use Rattle.shell_lines.specs.Settings.{is_full, is_set, with_setting, with_new, behind, suite_value, format_value, place_value, record_size_value, setting_of};
-ghost use Rattle.shell_lines.specs.Sized.{SetsRecordSize, SizedOptions};
+ghost use Rattle.std.specs.Option.{option_copied};
+ghost use Rattle.shell_lines.specs.Settings.{dash, key, kind_of, with_setting, behind, suite_value, format_value, place_value, record_size_value, key_value, setting_of, options_with};
 
 use dataset_tree::{Format, Suite};
 use encryption_roots::{Location, Options, PathText};
 use std::alloc::{AllocError, Global};
 
-/// What one option of a `create` sets.
+/// The kinds of options.
+#[derive(Clone, Copy, Debug, PartialEq, Eq)]
+pub(crate) enum OptionKind {
+    /// `-o encryption=SUITE`
+    Encryption,
+    /// `-o keyformat=FORMAT`
+    KeyFormat,
+    /// `-o keylocation=LOC`
+    KeyLocation,
+    /// `-o recordsize=BYTES`
+    RecordSize,
+}
+
+impl OptionKind {
+    /// The word that begins an option of this kind.
+    pub(crate) fn dash(self) -> &'static [u8]
+        ensures { result.now ≡ dash self }
+    {
+        match self {
+            OptionKind::Encryption
+            | OptionKind::KeyFormat
+            | OptionKind::KeyLocation
+            | OptionKind::RecordSize => b"-o",
+        }
+    }
+
+    /// What tells this kind from the others.
+    pub(crate) fn key(self) -> &'static [u8]
+        ensures { result.now ≡ key self }
+    {
+        match self {
+            OptionKind::Encryption => b"encryption",
+            OptionKind::KeyFormat => b"keyformat",
+            OptionKind::KeyLocation => b"keylocation",
+            OptionKind::RecordSize => b"recordsize",
+        }
+    }
+}
+
+/// What an option sets.
 #[derive(Debug, Drop)]
 pub(crate) enum Setting {
     Encryption(Suite),
@@ -18,70 +57,64 @@ pub(crate) enum Setting {
     RecordSize(u32),
 }
 
-/// Whether no key is left.
-pub(crate) fn is_full(options: &Options) -> bool
-    ensures { result ≡ is_full options.now }
-{
-    options.suite.is_some()
-        && options.format.is_some()
-        && options.place.is_some()
-        && options.block.is_some()
-}
-
-/// The options with one more setting, `None` where its key is set already.
-pub(crate) fn with_new(setting: Setting, options: Options) -> Option<Options>
-    requires setting { SetsRecordSize setting }
-    requires options { SizedOptions options }
-    ensures value { result ≡ with_new (Found setting) options }
-    ensures record_size { IfSome result SizedOptions }
-{
-    if is_set(&setting, &options) {
-        return None;
+impl Setting {
+    /// The kind of option that sets this.
+    pub(crate) fn kind(&self) -> OptionKind
+        ensures { result ≡ kind_of self.now }
+    {
+        match self {
+            Setting::Encryption(_) => OptionKind::Encryption,
+            Setting::KeyFormat(_) => OptionKind::KeyFormat,
+            Setting::KeyLocation(_) => OptionKind::KeyLocation,
+            Setting::RecordSize(_) => OptionKind::RecordSize,
+        }
     }
-    Some(with_setting(setting, options))
-}
 
-fn is_set(setting: &Setting, options: &Options) -> bool
-    ensures { result ≡ is_set setting.now options.now }
-{
-    match setting {
-        Setting::Encryption(_) => options.suite.is_some(),
-        Setting::KeyFormat(_) => options.format.is_some(),
-        Setting::KeyLocation(_) => options.place.is_some(),
-        Setting::RecordSize(_) => options.block.is_some(),
-    }
-}
-
-fn with_setting(setting: Setting, options: Options) -> Options
-    requires setting { SetsRecordSize setting }
-    requires options { SizedOptions options }
-    ensures value { result ≡ with_setting setting options }
-    ensures record_size { SizedOptions result }
-{
-    match setting {
-        Setting::Encryption(suite) => Options {
-            suite: Some(suite),
-            ..options
-        },
-        Setting::KeyFormat(format) => Options {
-            format: Some(format),
-            ..options
-        },
-        Setting::KeyLocation(place) => Options {
-            place: Some(place),
-            ..options
-        },
-        Setting::RecordSize(size) => Options {
-            block: Some(size),
-            ..options
-        },
+    /// The options with this setting in place of what they said of it.
+    pub(crate) fn put_into(self, options: Options) -> Options
+        ensures { result ≡ with_setting options self }
+    {
+        match self {
+            Setting::Encryption(suite) => Options {
+                suite: Some(suite),
+                ..options
+            },
+            Setting::KeyFormat(format) => Options {
+                format: Some(format),
+                ..options
+            },
+            Setting::KeyLocation(place) => Options {
+                place: Some(place),
+                ..options
+            },
+            Setting::RecordSize(size) => Options {
+                block: Some(size),
+                ..options
+            },
+        }
     }
 }
 
-/// The setting that a word spells.
-pub(crate) fn parse_setting(alloc: Global, word: &[u8]) -> Result<Option<Setting>, AllocError>
-    ensures value { IfOk result (λ setting. setting ≡ setting_of word.now) }
-    ensures record_size { IfOk result (λ setting. IfSome setting SetsRecordSize) }
+/// The setting that an option's words spell: the word that begins it, and the one behind, where it has one.
+pub(crate) fn parse_setting(
+    alloc: Global,
+    first: &[u8],
+    value: Option<&[u8]>,
+) -> Result<Option<Setting>, AllocError>
+    ensures { IfOk result (λ setting. setting ≡ setting_of first.now (option_copied value.entry)) }
+{
+    let Some(value) = value else {
+        return Ok(None);
+    };
+    if first == b"-o".as_slice() {
+        return parse_key_value(alloc, value);
+    }
+    Ok(None)
+}
+
+/// The setting that a word KEY=VALUE spells.
+fn parse_key_value(alloc: Global, word: &[u8]) -> Result<Option<Setting>, AllocError>
+    ensures { IfOk result (λ setting. setting ≡ key_value word.now) }
 {
     if let Some(value) = behind(b"encryption=", word) {
         return Ok(suite_value(value));
@@ -106,8 +139,7 @@ fn behind<'a>(front: &[u8], text: &'a [u8]) -> Option<&'a [u8]>
 }
 
 fn suite_value(value: &[u8]) -> Option<Setting>
-    ensures value { result ≡ suite_value value.now }
-    ensures record_size { IfSome result SetsRecordSize }
+    ensures { result ≡ suite_value value.now }
 {
     if value == b"on".as_slice() || value == b"aes-256-gcm".as_slice() {
         return Some(Setting::Encryption(Suite::Aes256Gcm));
@@ -122,8 +154,7 @@ fn suite_value(value: &[u8]) -> Option<Setting>
 }
 
 fn format_value(value: &[u8]) -> Option<Setting>
-    ensures value { result ≡ format_value value.now }
-    ensures record_size { IfSome result SetsRecordSize }
+    ensures { result ≡ format_value value.now }
 {
     if value == b"raw".as_slice() {
         return Some(Setting::KeyFormat(Format::Raw));
@@ -132,8 +163,7 @@ fn format_value(value: &[u8]) -> Option<Setting>
 }
 
 fn place_value(alloc: Global, value: &[u8]) -> Result<Option<Setting>, AllocError>
-    ensures value { IfOk result (λ setting. setting ≡ place_value value.now) }
-    ensures record_size { IfOk result (λ setting. IfSome setting SetsRecordSize) }
+    ensures { IfOk result (λ setting. setting ≡ place_value value.now) }
 {
     let Some(path) = behind(b"file://", value) else {
         return Ok(None);
@@ -145,8 +175,7 @@ fn place_value(alloc: Global, value: &[u8]) -> Result<Option<Setting>, AllocErro
 }
 
 fn record_size_value(value: &[u8]) -> Option<Setting>
-    ensures value { result ≡ record_size_value value.now }
-    ensures record_size { IfSome result SetsRecordSize }
+    ensures { result ≡ record_size_value value.now }
 {
     if value == b"512".as_slice() {
         return Some(Setting::RecordSize(512));
@@ -176,4 +205,15 @@ fn record_size_value(value: &[u8]) -> Option<Setting>
         return Some(Setting::RecordSize(131_072));
     }
     None
+}
+
+/// The options that these settings make.
+pub(crate) fn options_with(settings: Vec<Setting>) -> Options
+    ensures { result ≡ options_with settings.items }
+{
+    let mut options = Options::none();
+    for setting in settings {
+        options = setting.put_into(options);
+    }
+    options
 }

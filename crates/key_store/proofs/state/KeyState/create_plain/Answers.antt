@@ -3,11 +3,12 @@ use Rattle.dataset_tree.specs.declared.kinds.Kind.TheVariants.{Plain as PlainKin
 use Rattle.dataset_tree.specs.Tree.{Datasets, with_row}
 use Rattle.encryption_roots.specs.declared.command.KeyCmd.TheVariants as commands
 use Rattle.key_machine.specs.Plain.{Plain}
-use Rattle.key_machine.specs.Refusals.{refusal_of}
+use Rattle.key_machine.specs.Step.{refusal_of}
 use Rattle.key_machine.specs.Sound.{Sound}
-use Rattle.key_store.specs.Ciphers.{ciphers}
+use Rattle.key_ciphers.specs.Ciphers.{ciphers}
 use Rattle.key_store.specs.State.{plain_of}
-use Rattle.key_store.proofs.CreateLemmas.{free, given_id, plain_sound}
+use Rattle.key_machine.proofs.CreateLawsStep.{free}
+use Rattle.key_store.proofs.CreateLemmas.{given_id, plain_sound}
 use Rattle.key_store.proofs.state.KeyState.create_plain.Goals as goal
 
 pub add_free-requires : goal.add_free-requires

@@ -10,21 +10,22 @@ use Rattle.encryption_roots.specs.Props.{KeepsIterations}
 use Rattle.encryption_roots.specs.RecordSize.{IsRecordSize}
 use Rattle.wrapped_keys.specs.Stored.{parsed_record}
 use Rattle.key_machine.specs.Plain.{Plain, mkey}
-use Rattle.key_machine.specs.Needs.{makes_root, is_below_encrypted}
-use Rattle.key_machine.specs.Refusals.{refusal_of}
+use Rattle.key_machine.specs.Create.{makes_root, is_below_encrypted}
 use Rattle.key_machine.specs.Sound.{Sound}
-use Rattle.key_machine.specs.Step.{Stepped}
-use Rattle.key_machine.specs.Told.{Told, told}
+use Rattle.key_machine.specs.Reply.{Stepped}
+use Rattle.key_machine.specs.Step.{refusal_of, told}
+use Rattle.key_machine.specs.Told.{Told}
 use Rattle.key_machine.proofs.CreateLawsCases.{created_with}
 use Rattle.key_machine.proofs.KeyLists.{All-with_id}
 use Rattle.key_store.specs.declared.state.FamilyRecord.{FamilyRecord}
-use Rattle.key_store.specs.Ciphers.{ciphers}
+use Rattle.key_ciphers.specs.Ciphers.{ciphers}
 use Rattle.key_store.specs.Calls.{stepped}
 use Rattle.key_store.specs.NewRoot.{IsToldRoot}
 use Rattle.key_store.specs.State.{plain_of, stored_of, stored_records}
 use Rattle.key_store.proofs.RecordLemmas.{rising_records, with_id-stored}
 use Rattle.key_store.proofs.RoomLemmas.{roots_fit, loaded_fit}
-use Rattle.key_store.proofs.CreateLemmas.{IsFree, free, few_families, given_id, root_step, root_sound, root_opens, made_state}
+use Rattle.key_machine.proofs.CreateLawsStep.{IsFree, free}
+use Rattle.key_store.proofs.CreateLemmas.{few_families, given_id, root_step, root_sound, root_opens, made_state}
 use Rattle.key_store.proofs.state.KeyState.create_root.Goals as goal
 
 on_err : {T E : Type 0} (r : Result T E) (P : Type 0) → OnErr r P → is_err r ≡ true → P

@@ -2,9 +2,9 @@ use Rattle.std.proofs.Common.{◌≡◌, ℕ, List, Option, Some, None, sym, ap,
 use Rattle.std.specs.List.{find, filter}
 use Rattle.std.specs.Option.{option_map}
 use Rattle.key_machine.specs.Plain.{Plain, owned, owner_of, is_same}
-use Rattle.key_machine.specs.Told.{first_wrong}
+use Rattle.key_machine.specs.Load.{first_wrong}
 use Rattle.key_store.specs.declared.state.FamilyRecord.{FamilyRecord}
-use Rattle.key_store.specs.Ciphers.{ciphers}
+use Rattle.key_ciphers.specs.Ciphers.{ciphers}
 use Rattle.key_store.specs.Calls.{is_wrong}
 use Rattle.key_store.specs.State.{stored_records}
 use Rattle.key_store.proofs.LoadLemmas.{first_wrong-find}

@@ -1,7 +1,7 @@
 use Rattle.std.proofs.Common.{arith}
 use Rattle.std.proofs.lemmas.List.Elements.{All-nil}
 use Rattle.key_machine.proofs.SoundLemmas.{no_keys_sound}
-use Rattle.key_store.specs.Ciphers.{ciphers}
+use Rattle.key_ciphers.specs.Ciphers.{ciphers}
 use Rattle.key_store.proofs.state.KeyState.new.Goals as goal
 
 pub invariant_of-result : goal.invariant_of-result
