@@ -1,0 +1,5 @@
+pub mod Entries
+pub mod Nodes
+pub mod Walk
+pub mod Calls
+pub mod Fold
