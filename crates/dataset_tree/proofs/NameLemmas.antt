@@ -1,12 +1,12 @@
 -- How the fault of a name and the name of a parent change as a text is read from its front.
-use Rattle.std.proofs.Common.{◌≡◌, ◌≢◌, ℕ, ◌+◌, ◌<◌, Bool, true, false, not, cond, ◌==◌, nat_lt, List, [], ◌∷◌, ◌++◌, length, get_or, take, drop, Some, refl, ap, ◌∙◌, arith, add-one}
+use Rattle.std.proofs.Common.{◌≡◌, ◌≢◌, ℕ, ◌+◌, ◌<◌, Bool, true, false, not, ◌||◌, cond, ◌==◌, nat_lt, List, [], ◌∷◌, ◌++◌, length, get_or, take, drop, Some, None, refl, ap, ◌∙◌, arith, add-one}
 use Rattle.std.proofs.lemmas.List.{take_more}
 use Rattle.std.proofs.Math.Seq.{drop-cons}
 use Rattle.std.proofs.lemmas.Grind.{common_steps}
 use Rattle.std.proofs.lemmas.Bool.Decides.{nat_tests}
-use Rattle.std.specs.List.{count_by}
+use Rattle.std.specs.List.{count_by, list_any}
 use Rattle.std.proofs.lemmas.List.Sums.{sum_by-append}
-use Rattle.dataset_tree.specs.SetName.{is_slash, is_name_byte, ends_in_component, may_follow, name_fault_after, before_slash, parent_name}
+use Rattle.dataset_tree.specs.SetName.{slash, is_slash, is_name_byte, ends_in_component, may_follow, name_fault_after, before_slash, parent_name}
 
 -- a choice may be made before a function is applied or after
 pub choice_through : {A B : Type 0} (f : A → B) (b : Bool) (x y : A) → f (cond b x y) ≡ cond b (f x) (f y)
@@ -78,3 +78,17 @@ fault_past_the_end text i within full =
     let whole : length (take i text) ≡ i = grind (arith, common_steps) in
     let no_room : nat_lt (length (take i text)) 255 ≡ false = grind (arith, nat_tests) in
     fault_is_here text i within (rw (no_room) refl)
+
+-- a text without a slash is a name at the top, and behind a last slash it stands below what is before it
+no_slash : (b : ℕ) (bs : List ℕ) → (is_slash b || list_any is_slash bs) ≡ false → (is_slash b ≡ false) × (list_any is_slash bs ≡ false)
+no_slash b bs none = grind (arith, nat_tests)
+
+pub parent_at_top : (name : List ℕ) → list_any is_slash name ≡ false → parent_name name ≡ None
+parent_at_top [] none = refl
+parent_at_top (b ∷ bs) none =
+    let apart = no_slash b bs none in
+    rw (parent_at_top bs apart.1, apart.0) refl
+
+pub parent_below : (front last : List ℕ) → list_any is_slash last ≡ false → parent_name (front ++ slash ∷ last) ≡ Some front
+parent_below [] last none = rw (parent_at_top last none) refl
+parent_below (b ∷ front) last none = ap (before_slash b) (parent_below front last none)

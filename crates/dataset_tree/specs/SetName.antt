@@ -1,19 +1,22 @@
 -- The names of datasets: 1 to 32 components, joined by slashes, of letters, digits, `_`, `-`, `.` and `:`.
-use Rattle.std.specs.Prelude.{ℕ, Bool, false, not, ◌&&◌, ◌||◌, ◌==◌, nat_lt, List, [], ◌∷◌, ◌++◌, length, if◌then◌else◌}
+use Rattle.std.specs.Prelude.{ℕ, Bool, false, not, ◌&&◌, ◌||◌, ◌==◌, nat_lt, List, [], ◌∷◌, ◌++◌, length, if◌then◌else◌, slice_index}
 use Rattle.std.specs.declared.option.Option.{Option}
 use Rattle.std.specs.declared.option.Option.TheVariants.{Some, None}
 use Rattle.std.specs.Char.{is_ascii_alphanumeric}
-use Rattle.std.specs.List.{count_by}
+use Rattle.std.specs.List.{count_by, list_any}
+use lib.Chars.{codes}
 use Rattle.std.specs.Prelude.{Result, Ok, Err}
 use Rattle.dataset_tree.specs.declared.refusal.Refusal.{Refusal}
 use Rattle.dataset_tree.specs.declared.refusal.Refusal.TheVariants.{BadName}
 
--- the codes of `/`, `_`, `-`, `.` and `:`
+abbrev pub slash : ℕ
+slash = slice_index (codes "/") 0
+
 abbrev pub is_slash : ℕ → Bool
-is_slash b = b == 47
+is_slash b = b == slash
 
 abbrev pub is_name_byte : ℕ → Bool
-is_name_byte b = is_ascii_alphanumeric b || b == 95 || b == 45 || b == 46 || b == 58
+is_name_byte b = is_ascii_alphanumeric b || list_any (λ c. b == c) (codes "_-.:")
 
 -- whether the last component of what stands so far has a byte
 abbrev pub ends_in_component : List ℕ → Bool

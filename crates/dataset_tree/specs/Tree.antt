@@ -1,5 +1,5 @@
 -- The tree of datasets, as the list of its rows.
-use Rattle.std.specs.Prelude.{Bool, ◌≡◌, ◌⊎◌, ℕ, ◌+◌, ◌<◌, ◌≤◌, nat_lt, ◌==◌, List, [], ◌∷◌, ◌++◌, length, if◌then◌else◌, is_some, unwrap_or, true, Result, Ok, Err}
+use Rattle.std.specs.Prelude.{Bool, ◌≡◌, ◌≢◌, ◌⊎◌, ℕ, ◌+◌, ◌<◌, ◌≤◌, nat_lt, ◌==◌, List, [], ◌∷◌, ◌++◌, length, if◌then◌else◌, is_some, unwrap_or, true, Result, Ok, Err}
 use Rattle.std.specs.declared.option.Option.{Option}
 use Rattle.std.specs.declared.option.Option.TheVariants.{Some, None}
 use Rattle.std.specs.Option.{option_map}
@@ -53,11 +53,16 @@ with_row t name kind origin = record {
 abbrev pub no_datasets : Datasets
 no_datasets = record { rows = []; last = 0 }
 
--- Ids rise and none is above the last ever given; an id is greater than its parent's and its origin's.
+-- Ids rise and none is above the last ever given. An id is greater than its origin's. Names differ. A name of one component has parent 0; the
+-- parent of another row is the row whose name is its own without the last component.
 pub record IsTree (t : Datasets) : Type 0 where
   pub rising : AllPairs (λ earlier later. earlier.id < later.id) t.rows
   pub given : All (λ row. row.id ≤ t.last) t.rows
-  pub below : All (λ row. (row.parent < row.id) × (row.origin < row.id)) t.rows
+  pub origins : All (λ row. row.origin < row.id) t.rows
+  pub names : AllPairs (λ earlier later. earlier.name ≢ later.name) t.rows
+  pub parents : All (λ row. parent_in t.rows (parent_name row.name) ≡ Some row.parent) t.rows
+  -- since a dataset keeps the name and the parent that it was made with
+  pub parents_first : All (λ row. row.parent < row.id) t.rows
 
 -- the id of a dataset that is there, or none
 abbrev pub IsDatasetOrNone : Datasets → ℕ → Type 0

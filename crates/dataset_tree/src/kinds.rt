@@ -1,6 +1,6 @@
 // What kinds of datasets, keys and ciphers there are.
-ghost use Rattle.std.specs.Prelude.{◌≡◌, ◌≢◌, IfNone, IfSome};
-ghost use Rattle.dataset_tree.specs.Suite.{suite_number, suite_name, suite_key_len};
+ghost use Rattle.std.specs.Prelude.{◌≡◌};
+ghost use Rattle.dataset_tree.specs.Suite.{suite_number, suite_numbered, suite_name, suite_key_len};
 
 /// Whether a dataset is stored in the clear or encrypted.
 #[derive(Clone, Copy, Debug, PartialEq, Eq)]
@@ -42,8 +42,7 @@ impl Suite {
 
     /// The suite of a number, if one has it.
     pub fn from_number(number: u8) -> Option<Suite>
-        ensures found { IfSome result (λ suite. suite_number suite ≡ number) }
-        ensures none { IfNone result ((suite : Suite) → suite_number suite ≢ number) }
+        ensures { result ≡ suite_numbered number }
     {
         match number {
             6 => Some(Suite::Aes128Gcm),

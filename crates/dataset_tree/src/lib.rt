@@ -8,10 +8,10 @@ mod refusal;
 mod tree;
 
 pub use kinds::{Format, Kind, Suite};
-pub use name::SetName;
+pub use name::{SetName, parents_stand_before_the_last_slash};
 pub use record::RecordBytes;
 pub use refusal::{MaterialFault, NoMemory, Refusal, Stop};
-pub use tree::{Row, Tree};
+pub use tree::{Row, Tree, names_find_their_rows};
 
 #[cfg(test)]
 mod tests;

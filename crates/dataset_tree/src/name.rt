@@ -1,8 +1,9 @@
 // The names of datasets.
-ghost use Rattle.std.specs.Prelude.{◌≡◌, IfOk, IfSome, ◌-◌, ◌+◌};
+ghost use Rattle.std.specs.Prelude.{◌≡◌, ℕ, List, ◌∷◌, ◌++◌, false, Some, None, IfOk};
+ghost use Rattle.std.specs.List.{list_any};
 ghost use Rattle.std.specs.Option.{option_copied};
 ghost use Rattle.dataset_tree.specs.Refusal.{Gives};
-ghost use Rattle.dataset_tree.specs.SetName.{name_fault, parent_name, named, is_name_byte};
+ghost use Rattle.dataset_tree.specs.SetName.{name_fault, parent_name, named, is_name_byte, is_slash, slash};
 
 use crate::refusal::{NoMemory, Refusal, Stop};
 use std::alloc::Global;
@@ -116,3 +117,10 @@ fn parent_of(name: &[u8]) -> Option<&[u8]>
         None => None,
     }
 }
+
+/// The name of a parent is what stands before the last slash, and a name without a slash has none: a law, which does
+/// nothing.
+pub fn parents_stand_before_the_last_slash()
+    ensures below { (front last : List ℕ) → list_any is_slash last ≡ false → parent_name (front ++ slash ∷ last) ≡ Some front }
+    ensures top { (name : List ℕ) → list_any is_slash name ≡ false → parent_name name ≡ None }
+{}

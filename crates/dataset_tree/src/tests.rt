@@ -76,6 +76,8 @@ fn a_tree_gives_ids_in_order_and_refuses(rt: HostRuntime) -> Result<(), Fail> {
         (2, 1, Kind::Crypt, 0)
     );
     assert!(rt; tree.row(3).is_none());
+    names_find_their_rows();
+    parents_stand_before_the_last_slash();
     Ok(())
 }
 

@@ -120,7 +120,8 @@ impl Tree {
 
     /// The dataset of this id.
     pub fn row(&self, id: u32) -> Option<&Row>
-        ensures { option_copied result ≡ row_of id self.now.rows }
+        ensures row { option_copied result ≡ row_of id self.now.rows }
+        ensures tree { IsTree self.now }
     {
         row_in(self.rows.as_slice(), id)
     }
@@ -158,7 +159,11 @@ impl Tree {
     }
 }
 
-ghost use Rattle.dataset_tree.specs.Tree.{id_named as id_by_name, row_of as row_by_id, is_parent as is_a_parent};
+ghost use Rattle.std.specs.Prelude.{◌≤◌, Some, length};
+ghost use Rattle.std.specs.List.{All, AllPairs, AllWithin};
+ghost use Rattle.std.specs.Option.{option_map};
+ghost use Rattle.dataset_tree.specs.SetName.{parent_name};
+ghost use Rattle.dataset_tree.specs.Tree.{Datasets, IsTree, row_named, id_named as id_by_name, row_of as row_by_id, is_parent as is_a_parent};
 
 fn id_in(rows: &[Row], name: &[u8]) -> Option<u32>
     ensures { result ≡ id_by_name name.now rows.now }
@@ -169,9 +174,24 @@ fn id_in(rows: &[Row], name: &[u8]) -> Option<u32>
 }
 
 fn row_in(rows: &[Row], id: u32) -> Option<&Row>
+    requires { AllPairs (λ earlier later. earlier.id < later.id) rows.now }
     ensures { option_copied result ≡ row_by_id id rows.now }
 {
-    rows.iter().find(|row| row.id == id)
+    let at = place_in(rows, id);
+    if at < rows.len() && rows[at].id == id {
+        return Some(&rows[at]);
+    }
+    None
+}
+
+/// Where the row of this id stands, or would stand.
+fn place_in(rows: &[Row], id: u32) -> usize
+    requires { AllPairs (λ earlier later. earlier.id < later.id) rows.now }
+    ensures within { result ≤ length rows.now }
+    ensures below { AllWithin (λ row. row.id < id) rows.now 0 result }
+    ensures above { AllWithin (λ row. id ≤ row.id) rows.now result (length rows.now) }
+{
+    rows.partition_point(|row| row.id < id)
 }
 
 fn is_parent_in(rows: &[Row], id: u32) -> bool
@@ -179,3 +199,12 @@ fn is_parent_in(rows: &[Row], id: u32) -> bool
 {
     rows.iter().any(|row| row.parent == id)
 }
+
+/// In a tree each dataset is found by its name, and by its id, and its parent has the name that is its own without the
+/// last component: a law, which does nothing.
+pub fn names_find_their_rows()
+    ensures names { (t : Datasets) → IsTree t → All (λ row. row_named row.name t.rows ≡ Some row) t.rows }
+    ensures ids { (t : Datasets) → IsTree t → All (λ row. row_by_id row.id t.rows ≡ Some row) t.rows }
+    ensures parents { (t : Datasets) → IsTree t
+        → All (λ row. option_map (λ parent. parent.name) (row_by_id row.parent t.rows) ≡ parent_name row.name) t.rows }
+{}

@@ -1,5 +1,5 @@
 -- Key files by path, and what fetching one answers.
-use Rattle.std.specs.Prelude.{◌≡◌, ℕ, ◌≤◌, List, map, take, find, option_map, bytes_eq, None, Some, Result, Ok, Err, Vec, String, string_bytes, ⊤}
+use Rattle.std.specs.Prelude.{◌≡◌, ℕ, ◌≤◌, List, map, take, find, option_map, bytes_eq, None, Some, Bool, true, false, Result, Ok, Err, Vec, String, string_bytes, ⊤}
 use Rattle.std.specs.declared.option.Option.{Option}
 use Rattle.edge_io.specs.declared.errors.FetchError.{FetchError}
 use Rattle.edge_io.specs.declared.errors.FetchError.TheVariants as errors
@@ -20,6 +20,13 @@ FetchGives (Ok bytes) there = there ≡ Some bytes.items
 FetchGives (Err errors.Missing) there = there ≡ None
 FetchGives (Err errors.Failed) there = ⊤
 FetchGives (Err errors.NoMemory) there = ⊤
+
+-- whether a fetch failed
+abbrev pub is_failed : {T : Type 0} → Result T FetchError → Bool
+is_failed (Ok _) = false
+is_failed (Err errors.Failed) = true
+is_failed (Err errors.Missing) = false
+is_failed (Err errors.NoMemory) = false
 
 -- The count of faults rises where a fetch failed, and stays as it was at any other answer.
 abbrev pub FetchCounts : {T : Type 0} → ℕ → ℕ → Result T FetchError → Type 0

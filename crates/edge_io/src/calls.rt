@@ -1,6 +1,6 @@
 // How the outside in memory counts its calls and faults.
-ghost use Rattle.std.specs.Prelude.{◌≡◌, ◌↔◌, ◌≤◌, is_err, if◌then◌else◌, IsErr, Contains};
-ghost use Rattle.edge_io.specs.Memory.{one_more};
+ghost use Rattle.std.specs.Prelude.{◌≡◌, ◌≤◌, is_err, if◌then◌else◌};
+ghost use Rattle.edge_io.specs.Counts.{is_listed, one_more};
 
 use crate::Failed;
 
@@ -27,7 +27,7 @@ impl Calls {
 
     // Counts a call, and a fault where it is one of those that fail.
     pub(crate) fn count(&mut self) -> Result<(), Failed>
-        ensures listed { IsErr result ↔ Contains self.old.fails.items self.old.made }
+        ensures listed { is_err result ≡ is_listed self.old.fails.items self.old.made }
         ensures made { self.new.made ≡ one_more self.old.made }
         ensures fails { self.new.fails.items ≡ self.old.fails.items }
         ensures faults { self.new.faults ≡ (if is_err result then one_more self.old.faults else self.old.faults) }
@@ -35,7 +35,7 @@ impl Calls {
     {
         let made = self.made;
         self.made = made.saturating_add(1);
-        if self.fails.iter().any(|&number| u64::from(number) == made) {
+        if fails_at(&self.fails, made) {
             self.count_fault();
             return Err(Failed);
         }
@@ -50,4 +50,11 @@ impl Calls {
     {
         self.faults = self.faults.saturating_add(1);
     }
+}
+
+// Whether the call of this number is one of those that fail.
+fn fails_at(fails: &[u32], number: u64) -> bool
+    ensures { result ≡ is_listed fails.now number }
+{
+    fails.iter().any(|&listed| u64::from(listed) == number)
 }

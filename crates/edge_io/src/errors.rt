@@ -12,9 +12,7 @@ use thiserror::Error;
 pub struct Failed;
 
 /// There is no memory.
-#[derive(Clone, Copy, Debug, PartialEq, Eq, Error)]
-#[error("no memory")]
-pub struct NoMemory;
+pub type NoMemory = AllocError;
 
 /// Why no line was taken.
 #[derive(Clone, Copy, Debug, PartialEq, Eq, Error)]
@@ -38,12 +36,6 @@ pub enum FetchError {
     Missing,
     #[error("no memory")]
     NoMemory,
-}
-
-impl From<AllocError> for NoMemory {
-    fn from(_: AllocError) -> Self {
-        NoMemory
-    }
 }
 
 impl From<AllocError> for LineError {

@@ -1,6 +1,7 @@
 // Sources and sinks in memory, whose calls fail where a list says so.
-ghost use Rattle.std.specs.Prelude.{◌≡◌, ◌↔◌, ◌+◌, ◌<◌, ◌≤◌, [], Some, min, length, take, is_err, IsErr, IfOk, IfSome, OnErr, Contains};
+ghost use Rattle.std.specs.Prelude.{◌≡◌, ◌↔◌, ◌+◌, ◌<◌, ◌≤◌, [], Some, min, length, take, is_err, IsErr, IsTrue, IfOk, IfSome, OnErr};
 ghost use Rattle.std.specs.Io.KnownBytes.{Appends, Consumes};
+ghost use Rattle.edge_io.specs.Counts.{is_listed};
 ghost use Rattle.edge_io.specs.Faults.{HasCause};
 ghost use Rattle.edge_io.specs.Memory.{CountsCall};
 ghost use Rattle.edge_io.specs.Told.{StillTold};
@@ -60,7 +61,7 @@ impl Source for MemSource {
         ensures failed { OnErr result (StillTold (Some self.old.bytes) (Some self.new.bytes)) }
         ensures cause { HasCause self.old.faults self.new.faults result }
 
-        ensures listed { IsErr result ↔ Contains self.old.fails self.old.calls }
+        ensures listed { is_err result ≡ is_listed self.old.fails self.old.calls }
         ensures counted { CountsCall self.old self.new (is_err result) }
         ensures most { IfOk result (λ count. count ≡ min (length out.old) (length self.old.bytes)) }
     {
@@ -127,7 +128,7 @@ impl Sink for MemSink {
         ensures failed { OnErr result (StillTold (Some self.old.bytes) (Some self.new.bytes)) }
         ensures cause { HasCause self.old.faults self.new.faults result }
 
-        ensures listed { Contains self.old.fails self.old.calls → IsErr result }
+        ensures listed { IsTrue (is_listed self.old.fails self.old.calls) → IsErr result }
         ensures counted { CountsCall self.old self.new (is_err result) }
         ensures all { IfOk result (λ count. count ≡ length piece.now) }
     {

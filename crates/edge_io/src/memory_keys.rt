@@ -1,9 +1,10 @@
 // Key files and entropy in memory, whose calls fail where a list says so.
-ghost use Rattle.std.specs.Prelude.{◌≡◌, ◌↔◌, ◌<◌, ◌≤◌, ◌⊎◌, Some, length, take, find, bytes_eq, option_map, string_bytes, is_err, IsTrue, IsErr, IfOk, IfSome, OnErr, OnOk, Contains};
-ghost use Rattle.edge_io.specs.Entropy.{MovesNext};
+ghost use Rattle.std.specs.Prelude.{◌≡◌, ◌≤◌, Some, length, take, find, bytes_eq, option_map, string_bytes, is_err, IfOk, IfSome, OnErr, OnOk};
+ghost use Rattle.edge_io.specs.Counts.{next_listed, one_more};
+ghost use Rattle.edge_io.specs.Entropy.{MovesNext, fill_fails};
 ghost use Rattle.edge_io.specs.Faults.{HasCause};
-ghost use Rattle.edge_io.specs.KeyFiles.{FetchCounts, FetchGives, fetched, file_at, plain_files};
-ghost use Rattle.edge_io.specs.Memory.{CountsCall, after_fetch, is_failed};
+ghost use Rattle.edge_io.specs.KeyFiles.{FetchCounts, FetchGives, fetched, file_at, is_failed, plain_files};
+ghost use Rattle.edge_io.specs.Memory.{CountsCall, after_fetch};
 
 use crate::calls::Calls;
 use crate::{Entropy, Failed, FetchError, KeyFiles, MAX_KEY_FILE};
@@ -49,15 +50,21 @@ impl KeyFiles for MemKeyFiles {
 
     ghost faults = { λ key_files. key_files.faults };
 
+    ghost calls = { λ key_files. Some key_files.calls };
+
+    ghost failing = { λ key_files. Some key_files.fails };
+
     /// Fails at the listed calls, and at no other.
     fn fetch(&mut self, alloc: Global, path: &str) -> Result<Vec<u8>, FetchError>
         ensures gives { IfSome (Some self.old.files) (λ files. FetchGives result (fetched path.now files)) }
         ensures short { IfOk result (λ bytes. length bytes.items ≤ MAX_KEY_FILE) }
         ensures told { Some self.new.files ≡ Some self.old.files }
         ensures cause { FetchCounts self.old.faults self.new.faults result }
+        ensures listed { IfSome (next_listed (Some self.old.calls) (Some self.old.fails)) (λ fails. is_failed result ≡ fails) }
+        ensures counted { Some self.new.calls ≡ option_map one_more (Some self.old.calls) }
+        ensures failing { Some self.new.fails ≡ Some self.old.fails }
 
-        ensures listed { IsTrue (is_failed result) ↔ Contains self.old.fails self.old.calls }
-        ensures counted { self.new ≡ after_fetch self.old (is_failed result) }
+        ensures after { self.new ≡ after_fetch self.old (is_failed result) }
     {
         if let Err(Failed) = self.calls.count() {
             return Err(FetchError::Failed);
@@ -136,15 +143,22 @@ impl Entropy for MemEntropy {
 
     ghost faults = { λ entropy. entropy.faults };
 
+    ghost calls = { λ entropy. Some entropy.calls };
+
+    ghost failing = { λ entropy. Some entropy.fails };
+
     /// Fails at the listed calls and where fewer than 32 bytes are left, and at no other.
     fn fill(&mut self, out: &mut [u8; 32]) -> Result<(), Failed>
         ensures moved { OnOk result (IfSome (Some self.old.bytes) (λ bytes. MovesNext bytes (Some self.new.bytes) out.new)) }
         ensures failed { OnErr result (Some self.new.bytes ≡ Some self.old.bytes) }
         ensures untouched { OnErr result (out.new ≡ out.old) }
         ensures cause { HasCause self.old.faults self.new.faults result }
+        ensures fails { IfSome (fill_fails (Some self.old.bytes) (next_listed (Some self.old.calls) (Some self.old.fails)))
+            (λ fails. is_err result ≡ fails) }
+        ensures counted { Some self.new.calls ≡ option_map one_more (Some self.old.calls) }
+        ensures failing { Some self.new.fails ≡ Some self.old.fails }
 
-        ensures listed { IsErr result ↔ (Contains self.old.fails self.old.calls ⊎ length self.old.bytes < 32) }
-        ensures counted { CountsCall self.old self.new (is_err result) }
+        ensures after { CountsCall self.old self.new (is_err result) }
     {
         self.calls.count()?;
         let left = &self.bytes[self.start..];

@@ -43,6 +43,10 @@ impl<R: Files> KeyFiles for SystemKeyFiles<R> {
 
     ghost faults = { λ count. count };
 
+    ghost calls = { λ _. None };
+
+    ghost failing = { λ _. None };
+
     /// Answers `Missing` where opening finds no file of this path; every other error is a failure.
     fn fetch(&mut self, alloc: Global, path: &str) -> Result<Vec<u8>, FetchError> {
         match read_key_file(&self.rt, alloc, path) {
@@ -117,6 +121,10 @@ impl<R: Files> Entropy for SystemEntropy<R> {
     ghost left = { λ _. None };
 
     ghost faults = { λ count. count };
+
+    ghost calls = { λ _. None };
+
+    ghost failing = { λ _. None };
 
     fn fill(&mut self, out: &mut [u8; 32]) -> Result<(), Failed> {
         match read_random(&self.rt) {

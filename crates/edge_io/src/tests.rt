@@ -2,12 +2,11 @@
 ghost use Rattle.std.specs.Prelude.{None};
 
 use crate::{
-    Entropy, Failed, FetchError, KeyFiles, LineError, LineReader, MAX_LINE, MemEntropy,
-    MemKeyFiles, MemSink, MemSource, Reading, Sink, Source, SystemEntropy, SystemKeyFiles, Writing,
+    Entropy, Failed, FetchError, KeyFiles, LineError, LineReader, MAX_LINE, MemKeyFiles, MemSink,
+    MemSource, Reading, Sink, Source, SystemEntropy, SystemKeyFiles, Writing,
 };
-use std::alloc::Global;
-use std::io;
 use std::test::Fail;
+use std::{fs, io};
 
 // A source that gives a few bytes at a time, and tells nothing.
 #[derive(Drop)]
@@ -149,36 +148,33 @@ fn key_files_are_fetched_by_path(rt: HostRuntime) -> Result<(), Fail> {
     Ok(())
 }
 
-#[test]
-fn entropy_that_runs_short_keeps_its_bytes(rt: HostRuntime) -> Result<(), Fail> {
-    let alloc = rt.alloc();
-    let mut bytes = vec![in alloc; 1; 32]?;
-    bytes.extend_from_slice(&[2; 31])?;
-    let mut entropy = MemEntropy::new(bytes, vec![in alloc; 0]?);
-    let mut out = [0; 32];
-    assert_eq!(rt; entropy.fill(&mut out), Err(Failed));
-    assert_eq!(rt; out, [0; 32]);
-    entropy.fill(&mut out)?;
-    assert_eq!(rt; out, [1; 32]);
-    assert_eq!(rt; entropy.fill(&mut out), Err(Failed));
-    assert_eq!(rt; out, [1; 32]);
-    Ok(())
-}
-
+// Opening `/dev/null/x` fails, since `/dev/null` is no folder.
 #[test]
 fn files_of_the_system(rt: HostRuntime) -> Result<(), Fail> {
     let alloc = rt.alloc();
     let mut key_files = SystemKeyFiles::new(&rt);
-    assert!(rt; key_files.fetch(alloc, "/no/such/key") == Err(FetchError::Missing));
+    fs::write(&rt, "key_of_32_bytes", [7; 32].as_slice())?;
+    let fetched = key_files.fetch(alloc, "key_of_32_bytes");
+    fs::remove_file(&rt, "key_of_32_bytes")?;
+    assert_eq!(rt; fetched?.as_slice(), [7; 32].as_slice());
     assert_eq!(rt;
         key_files.fetch(alloc, "/dev/zero")?.as_slice(),
         [0; 1024].as_slice()
     );
-    assert!(rt; key_files.fetch(alloc, "/dev") == Err(FetchError::Failed));
+    for (path, why) in [
+        ("/no/such/key", FetchError::Missing),
+        ("/dev/null/x", FetchError::Failed),
+        ("/dev", FetchError::Failed),
+    ] {
+        assert!(rt; key_files.fetch(alloc, path) == Err(why), "at {path}");
+    }
 
     let mut entropy = SystemEntropy::new(&rt);
-    let mut out = [0; 32];
-    entropy.fill(&mut out)?;
-    assert!(rt; out != [0; 32]);
+    let mut first = [0; 32];
+    let mut second = [0; 32];
+    entropy.fill(&mut first)?;
+    entropy.fill(&mut second)?;
+    let differing = (0..32).filter(|&at| first[at] != second[at]).count();
+    assert!(rt; differing > 1);
     Ok(())
 }

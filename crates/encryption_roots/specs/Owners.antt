@@ -1,5 +1,6 @@
 -- The owner of a dataset's key, and the family of a dataset.
-use Rattle.std.specs.Prelude.{◌≡◌, ℕ, zero, suc, ◌==◌, List, if◌then◌else◌, is_some}
+use Rattle.std.specs.Prelude.{◌≡◌, ◌≢◌, ℕ, zero, suc, ◌==◌, List, length, if◌then◌else◌, is_some}
+use Rattle.std.specs.List.{All}
 use Rattle.std.specs.declared.option.Option.{Option}
 use Rattle.std.specs.declared.option.Option.TheVariants.{Some, None}
 use Rattle.dataset_tree.specs.declared.kinds.Kind.{Kind}
@@ -26,9 +27,9 @@ abbrev pub owner_within : ℕ → List Row → List (ℕ × Props) → ℕ → O
 owner_within zero rows roots id = None
 owner_within (suc steps) rows roots id = owner_from roots id (row_of id rows) (λ next. owner_within steps rows roots next)
 
--- The owner: none for a plain dataset and where there is none of this id. The ids on the walk fall, so it has at most as many steps as the id.
+-- The owner: none for a plain dataset and where there is none of this id. No dataset comes twice on the walk, so it has at most as many steps as there are rows.
 abbrev pub owner : List Row → List (ℕ × Props) → ℕ → Option ℕ
-owner rows roots id = owner_within id rows roots id
+owner rows roots id = owner_within (length rows) rows roots id
 
 abbrev pub family_from : ℕ → Option Row → (ℕ → ℕ) → ℕ
 family_from id None further = id
@@ -38,9 +39,9 @@ abbrev pub family_within : ℕ → List Row → ℕ → ℕ
 family_within zero rows id = id
 family_within (suc steps) rows id = family_from id (row_of id rows) (λ next. family_within steps rows next)
 
--- The family: the first dataset along the origins, whose ids fall.
+-- The family: the first dataset along the origins, of which there are at most as many as rows.
 abbrev pub family : List Row → ℕ → ℕ
-family rows id = family_within id rows id
+family rows id = family_within (length rows) rows id
 
 -- in a tree, a dataset with this row, and an id without a dataset
 abbrev pub IsRowOf : Datasets → ℕ → Row → Type 0
@@ -48,3 +49,7 @@ IsRowOf t id row = IsTree t × (row_of id t.rows ≡ Some row)
 
 abbrev pub HasNoRow : Datasets → ℕ → Type 0
 HasNoRow t id = IsTree t × (row_of id t.rows ≡ None)
+
+-- in a tree, no clone is plain or a root
+abbrev pub HasHeirsAsClones : Datasets → List (ℕ × Props) → Type 0
+HasHeirsAsClones t roots = IsTree t × All (λ row. row.origin ≢ 0 → (row.kind ≡ Crypt) × (props_of row.id roots ≡ None)) t.rows

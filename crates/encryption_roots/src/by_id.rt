@@ -1,5 +1,5 @@
 // Finite maps from ids, as lists of (id, value) in rising order of id.
-ghost use Rattle.std.specs.Prelude.{◌≡◌, ◌<◌, ◌≤◌, ◌==◌, not, length, vec_capacity, OnOk, OnErr};
+ghost use Rattle.std.specs.Prelude.{◌≡◌, ◌<◌, ◌≤◌, ◌==◌, not, None, length, vec_capacity, OnOk, OnErr};
 ghost use Rattle.std.specs.List.{AllWithin};
 ghost use Rattle.std.specs.Option.{option_copied};
 ghost use Rattle.encryption_roots.specs.ById.{IsRisingById, at_id, with_id, without_id};
@@ -21,10 +21,11 @@ pub fn at_id<X>(entries: &[(u32, X)], id: u32) -> Option<&X>
 /// Sets the value at this id, in place of one that is there.
 ///
 /// # Errors
-/// `NoMemory` only where as many values are there as there is room for. Then all are as before.
+/// `NoMemory` only for a new value, where as many are there as there is room for. Then all are as before.
 pub fn put_at_id<X: Drop>(entries: &mut Vec<(u32, X)>, id: u32, value: X) -> Result<(), NoMemory>
     requires { IsRisingById entries.old.items }
     ensures ok { OnOk result (entries.new.items ≡ with_id id value entries.old.items) }
+    ensures new { OnErr result (at_id id entries.old.items ≡ None) }
     ensures full { OnErr result (vec_capacity entries.old ≤ length entries.old.items) }
     ensures err { OnErr result (entries.new.items ≡ entries.old.items) }
     ensures rising { IsRisingById entries.new.items }

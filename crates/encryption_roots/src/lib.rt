@@ -12,7 +12,7 @@ mod texts;
 pub use by_id::{at_id, put_at_id, remove_at_id};
 pub use command::KeyCmd;
 pub use kit::{Fetched, LineKit, SeedGot};
-pub use owners::{family_of, owner_of, owners_by_walking};
+pub use owners::{families_have_one_owner, family_of, owner_of, owners_by_walking};
 pub use props::{Location, Options, Prop, Props};
 pub use roots::Roots;
 pub use texts::{Material, PathText, PropText};

@@ -5,7 +5,7 @@ ghost use Rattle.dataset_tree.specs.Tree.{Datasets, row_of};
 ghost use Rattle.dataset_tree.specs.declared.tree.Row.{Row as DatasetRow};
 ghost use Rattle.encryption_roots.specs.declared.props.Props.{Props as RootProps};
 ghost use Rattle.encryption_roots.specs.Roots.{props_of};
-ghost use Rattle.encryption_roots.specs.Owners.{owner, family, next_to_owner, IsRowOf, HasNoRow};
+ghost use Rattle.encryption_roots.specs.Owners.{owner, family, next_to_owner, IsRowOf, HasNoRow, HasHeirsAsClones};
 
 use crate::roots::Roots;
 use dataset_tree::{Kind, Row, Tree};
@@ -15,9 +15,8 @@ use dataset_tree::{Kind, Row, Tree};
 pub fn owner_of(tree: &Tree, roots: &Roots, id: u32) -> Option<u32>
     ensures { result ≡ owner tree.now.rows roots.now id }
 {
-    let rows = tree.rows();
     let mut at = id;
-    while let Some(row) = row_in(rows, at) {
+    while let Some(row) = tree.row(at) {
         match row.kind {
             Kind::Plain => return None,
             Kind::Crypt if roots.contains(at) => return Some(at),
@@ -32,9 +31,8 @@ pub fn owner_of(tree: &Tree, roots: &Roots, id: u32) -> Option<u32>
 pub fn family_of(tree: &Tree, id: u32) -> u32
     ensures { result ≡ family tree.now.rows id }
 {
-    let rows = tree.rows();
     let mut at = id;
-    while let Some(row) = row_in(rows, at)
+    while let Some(row) = tree.row(at)
         && row.origin != 0
     {
         at = row.origin;
@@ -51,12 +49,6 @@ fn next_to_owner(row: &Row) -> u32
     } else {
         row.origin
     }
-}
-
-fn row_in(rows: &[Row], id: u32) -> Option<&Row>
-    ensures { option_copied result ≡ row_of id rows.now }
-{
-    rows.iter().find(|row| row.id == id)
 }
 
 /// The owner and the family by their equations, in every tree: a law, which does nothing.
@@ -81,4 +73,12 @@ pub fn owners_by_walking()
         → family t.rows id ≡ id }
     ensures family_of_clone { (t : Datasets) (id : ℕ) (row : DatasetRow) → IsRowOf t id row → row.origin ≢ 0
         → family t.rows id ≡ family t.rows row.origin }
+{}
+
+/// Where no clone is plain or a root, the datasets of a family have one owner: a law, which does nothing.
+pub fn families_have_one_owner()
+    ensures of_family { (t : Datasets) (roots : List (ℕ × RootProps)) (id : ℕ) → HasHeirsAsClones t roots
+        → owner t.rows roots id ≡ owner t.rows roots (family t.rows id) }
+    ensures one { (t : Datasets) (roots : List (ℕ × RootProps)) (id other : ℕ) → HasHeirsAsClones t roots
+        → family t.rows id ≡ family t.rows other → owner t.rows roots id ≡ owner t.rows roots other }
 {}

@@ -1,5 +1,5 @@
 // The encryption roots.
-ghost use Rattle.std.specs.Prelude.{◌≡◌, ◌<◌, ◌≤◌, length, [], is_some, IfOk, OnOk, OnErr};
+ghost use Rattle.std.specs.Prelude.{◌≡◌, ◌<◌, ◌≤◌, length, [], None, is_some, IfOk, OnOk, OnErr};
 ghost use Rattle.std.specs.Option.{option_copied};
 ghost use Rattle.encryption_roots.specs.ById.{IsRisingById};
 ghost use Rattle.encryption_roots.specs.Roots.{props_of, with_root, without_root};
@@ -58,9 +58,10 @@ impl Roots {
     /// Makes the dataset a root with these properties, or gives a root these in place of its own.
     ///
     /// # Errors
-    /// `NoMemory` only where there are 256 roots or more. Then the roots are as before.
+    /// `NoMemory` only for a new root, where there are 256 or more. Then the roots are as before.
     pub fn insert(&mut self, id: u32, props: Props) -> Result<(), NoMemory>
         ensures ok { OnOk result (self.new ≡ with_root id props self.old) }
+        ensures new { OnErr result (props_of id self.old ≡ None) }
         ensures full { OnErr result (256 ≤ length self.old) }
         ensures err { OnErr result (self.new ≡ self.old) }
     {

@@ -96,6 +96,7 @@ fn owners_come_by_parents_and_by_origins(rt: HostRuntime) -> Result<(), Fail> {
         assert_eq!(rt; family_of(&tree, id), family, "at {id}");
     }
     owners_by_walking();
+    families_have_one_owner();
     Ok(())
 }
 

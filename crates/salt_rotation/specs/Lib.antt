@@ -1,4 +1,5 @@
 pub mod SeedWords
+pub mod Places
 pub mod Salts
 pub mod SaltState
 pub mod SaltsFields

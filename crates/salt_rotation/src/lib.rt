@@ -5,10 +5,14 @@
 //! then changed for the next one; an initialization vector serves one draw.
 #![tactic(auto)]
 
+mod places;
 mod salts;
 mod seed_words;
 #[cfg(test)]
 mod tests;
 
+pub use places::{
+    GUID_PLACE, HMAC_PLACE, MASTER_PLACE, SALT_PLACE, SALTS_SEED_PLACE, place_of_vector,
+};
 pub use salts::{Drawn, MAX_DRAWS, MAX_SALT_USES, Salts};
 pub use seed_words::SeedWords;

@@ -1,6 +1,7 @@
 ghost use Rattle.std.specs.Prelude.{◌≡◌, ◌+◌, ◌*◌, ◌^◌, ◌<◌, ◌≤◌};
 ghost use Rattle.salt_rotation.specs.Salts.{salt_of, drawn};
 
+use crate::seed_words::SeedWords;
 use rand_chacha::ChaCha20Rng;
 use rand_core::SeedableRng;
 use rand_core::utils::fill_bytes_via_u32;
@@ -9,6 +10,8 @@ use std::marker::Model;
 
 /// The largest number of draws that one salt may serve.
 pub const MAX_SALT_USES: u64 = 400_000_000;
+
+const _: () = prove!(MAX_SALT_USES == 400_000_000);
 
 /// How many draws a seed gives at most.
 pub const MAX_DRAWS: u64 = 1 << 48;
@@ -163,14 +166,13 @@ impl Eq for Salts {
 }
 
 // A salt, by its number.
+#[tactic(auto, unfolding(crate::specs::Salts::salt_of))]
 fn salt_at(seed: [u8; 32], number: u64) -> [u8; 8]
     requires { number ≤ MAX_DRAWS }
     ensures { result ≡ salt_of seed number }
 {
-    let mut stream = ChaCha20Rng::from_seed(seed);
-    stream.set_word_pos(u128::from(SALT_WORDS * number));
     let mut salt = [0; 8];
-    fill_bytes_via_u32(&mut stream, &mut salt);
+    SeedWords::new(seed).fill(SALT_WORDS * number, &mut salt);
     salt
 }
 

@@ -1,9 +1,9 @@
-ghost use Rattle.std.specs.Prelude.{◌≡◌};
-ghost use Rattle.salt_rotation.specs.SeedWords.{seed_word};
+ghost use Rattle.std.specs.Prelude.{◌≡◌, length};
+ghost use Rattle.salt_rotation.specs.SeedWords.{seed_bytes};
 
 use rand_chacha::ChaCha20Rng;
 use rand_core::SeedableRng;
-use rand_core::utils::NextWord;
+use rand_core::utils::fill_bytes_via_u32;
 use std::marker::Model;
 
 /// The 32-bit words of a seed of 32 bytes, by place.
@@ -33,13 +33,12 @@ impl SeedWords {
         SeedWords { seed }
     }
 
-    /// The word at a place: word `place % 16` of the ChaCha block with counter `place / 16`.
-    #[tactic(auto, unfolding(crate::specs::SeedWords::seed_word))]
-    pub fn word(&self, place: u64) -> u32
-        ensures { result ≡ seed_word self.now place }
+    /// Fills `out` with the bytes of the words from a place on, the least significant byte of a word first.
+    pub fn fill(&self, place: u64, out: &mut [u8])
+        ensures { out.new ≡ seed_bytes self.now place (length out.old) }
     {
         let mut stream = ChaCha20Rng::from_seed(self.seed);
         stream.set_word_pos(u128::from(place));
-        stream.next_word()
+        fill_bytes_via_u32(&mut stream, out);
     }
 }

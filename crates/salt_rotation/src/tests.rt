@@ -11,14 +11,22 @@ const SEED: [u8; 32] = [
 // The place of the last word of the last draw's vector.
 const LAST_PLACE: u64 = (1 << 60) + 3 * ((1 << 48) - 1) + 2;
 
+// The bytes of words 15 and 16, which stand in two blocks, and of three other words.
 #[test]
 fn words_are_those_of_chacha20(rt: HostRuntime) {
     let words = SeedWords::new(SEED);
-    assert_eq!(rt; words.word(0), 0x7d2b_fd39);
-    assert_eq!(rt; words.word(15), 0x0c41_5b48);
-    assert_eq!(rt; words.word(16), 0x3142_b818);
-    assert_eq!(rt; words.word(1 << 60), 0xa11e_1040);
-    assert_eq!(rt; words.word(LAST_PLACE), 0xe27c_10c1);
+    let mut across = [0; 7];
+    words.fill(15, &mut across);
+    assert_eq!(rt; across, [0x48, 0x5b, 0x41, 0x0c, 0x18, 0xb8, 0x42]);
+    for (place, bytes) in [
+        (0, 0x7d2b_fd39_u32),
+        (1 << 60, 0xa11e_1040),
+        (LAST_PLACE, 0xe27c_10c1),
+    ] {
+        let mut word = [0; 4];
+        words.fill(place, &mut word);
+        assert_eq!(rt; u32::from_le_bytes(word), bytes, "at {place}");
+    }
 }
 
 #[test]

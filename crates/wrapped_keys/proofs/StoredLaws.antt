@@ -1,6 +1,6 @@
 -- The stored form of a record, and its reading.
-use Rattle.std.proofs.Common.{◌≡◌, ◌≢◌, ℕ, ◌+◌, ◌^◌, ◌<◌, ◌≤◌, inl, inr, true, false, ◌==◌, List, [], ◌∷◌, ◌++◌, length, take, drop, slice_index, Some, None, refl, sym, ap, ◌∙◌, arith, length-append, length-take, length-drop}
-use Rattle.std.proofs.lemmas.Bool.{eq-eqb, ne_eqb}
+use Rattle.std.proofs.Common.{◌≡◌, ℕ, ◌+◌, ◌^◌, ◌<◌, ◌≤◌, inl, inr, true, ◌==◌, List, [], ◌∷◌, ◌++◌, length, take, drop, slice_index, Some, refl, ap, ◌∙◌, arith, length-append, length-take, length-drop}
+use Rattle.std.proofs.lemmas.Bool.{eq-eqb}
 use Rattle.std.proofs.lemmas.List.{take_at, drop_at, length-take-le, get_or-take, get_or_past, append_assoc, take-append-drop, drop_more}
 use Rattle.std.proofs.lemmas.Bool.{cases_lt}
 use Rattle.dataset_tree.specs.declared.kinds.Suite.{Suite}
@@ -10,7 +10,7 @@ use Rattle.byte_fields.specs.LittleEndian.{little_endian_bytes, little_endian_va
 use Rattle.byte_fields.proofs.FieldLaws.{little_endian_value-bytes, little_endian_bytes-value}
 use Rattle.wrapped_keys.specs.Values.{MasterValue, RecordValue, sealed_len, IsMasterKey, IsRecord}
 use Rattle.wrapped_keys.specs.Wrapping.{record_of, opens}
-use Rattle.wrapped_keys.specs.Stored.{header_bytes, record_bytes, record_at, parsed_record, opens_bytes}
+use Rattle.wrapped_keys.specs.Stored.{header_bytes, record_bytes, record_at, suite_of, parsed_record, opens_bytes}
 use Rattle.wrapped_keys.specs.PaddedRecord.{IsPaddedRecord, record_value}
 use Rattle.wrapped_keys.specs.declared.key_record.KeyRecord.TheInside.{Inside}
 use Rattle.wrapped_keys.proofs.WrappingLaws.{length-aead_seal, length-aead_tag, opens-record_of}
@@ -21,46 +21,16 @@ suite_numbered-number Aes128Gcm = refl
 suite_numbered-number Aes192Gcm = refl
 suite_numbered-number Aes256Gcm = refl
 
-suite_numbered-none : (number : ℕ) → ((suite : Suite) → suite_number suite ≢ number) → suite_numbered number ≡ None
-suite_numbered-none number none =
-    let six : (number == 6) ≡ false = ne_eqb number 6 (λ e. none Aes128Gcm (sym e)) in
-    let seven : (number == 7) ≡ false = ne_eqb number 7 (λ e. none Aes192Gcm (sym e)) in
-    let eight : (number == 8) ≡ false = ne_eqb number 8 (λ e. none Aes256Gcm (sym e)) in
-    rw (six, seven, eight) refl
+-- ---- the reading
 
--- ---- the reading, by its tests
-
-pub parsed_short : (bytes : List ℕ) → length bytes ≤ 8 → parsed_record bytes ≡ None
-unfolding parsed_record
-parsed_short bytes short = rw (get_or_past bytes 8 0 short) refl
-
-pub parsed_no_suite : (bytes : List ℕ) → ((suite : Suite) → suite_number suite ≢ slice_index bytes 8) → parsed_record bytes ≡ None
-unfolding parsed_record
-parsed_no_suite bytes none = rw (suite_numbered-none (slice_index bytes 8) none) refl
-
-pub parsed_other_length : (suite : Suite) (bytes : List ℕ) → suite_number suite ≡ slice_index bytes 8
-    → length bytes ≢ 38 + sealed_len suite → parsed_record bytes ≡ None
-unfolding parsed_record
-parsed_other_length suite bytes named other =
-    let short : (length bytes == 38 + sealed_len suite) ≡ false = ne_eqb (length bytes) (38 + sealed_len suite) other in
-    rw (← named, suite_numbered-number suite, short) refl
-
-pub parsed_other_version : (suite : Suite) (bytes : List ℕ) → suite_number suite ≡ slice_index bytes 8
-    → length bytes ≡ 38 + sealed_len suite → slice_index bytes 9 ≢ 1 → parsed_record bytes ≡ None
-unfolding parsed_record
-parsed_other_version suite bytes named whole other =
-    let long : (length bytes == 38 + sealed_len suite) ≡ true = eq-eqb (length bytes) (38 + sealed_len suite) whole in
-    let old : (slice_index bytes 9 == 1) ≡ false = ne_eqb (slice_index bytes 9) 1 other in
-    rw (← named, suite_numbered-number suite, long, old) refl
-
-pub parsed_good : (suite : Suite) (bytes : List ℕ) → suite_number suite ≡ slice_index bytes 8
+pub parsed_good : (suite : Suite) (bytes : List ℕ) → suite_of bytes ≡ Some suite
     → length bytes ≡ 38 + sealed_len suite → slice_index bytes 9 ≡ 1
     → parsed_record bytes ≡ Some (record_at suite bytes)
 unfolding parsed_record
 parsed_good suite bytes named whole version =
     let long : (length bytes == 38 + sealed_len suite) ≡ true = eq-eqb (length bytes) (38 + sealed_len suite) whole in
     let current : (slice_index bytes 9 == 1) ≡ true = eq-eqb (slice_index bytes 9) 1 version in
-    rw (← named, suite_numbered-number suite, long, current) refl
+    rw (named, long, current) refl
 
 -- ---- each is the inverse of the other
 
@@ -103,9 +73,9 @@ unfolding record_bytes header_bytes little_endian_bytes
 length-record_bytes r is =
     omega (arith, length-append (r.iv ++ r.mac) r.sealed, length-append r.iv r.mac, is.iv, is.mac, is.sealed)
 
-bytes_name_suite : (r : RecordValue) → suite_number r.suite ≡ slice_index (record_bytes r) 8
+bytes_name_suite : (r : RecordValue) → suite_of (record_bytes r) ≡ Some r.suite
 unfolding record_bytes header_bytes little_endian_bytes
-bytes_name_suite r = refl
+bytes_name_suite r = suite_numbered-number r.suite
 
 bytes_have_version : (r : RecordValue) → slice_index (record_bytes r) 9 ≡ r.version
 unfolding record_bytes header_bytes little_endian_bytes

@@ -1,20 +1,20 @@
-use Rattle.std.proofs.Common.{◌≡◌, ◌+◌, ◌*◌, ◌^◌, refl, ap, ◌∙◌, arith}
-use Rattle.salt_rotation.specs.SeedWords.{generator_at, seed_bytes}
+use Rattle.std.proofs.Common.{◌+◌, ◌*◌, ◌^◌, refl, ap, ◌∙◌, arith}
+use Rattle.salt_rotation.specs.SeedWords.{generator_at}
 use Rattle.salt_rotation.specs.Salts.{iv_of}
-use Rattle.salt_rotation.proofs.KeyStream.{fills-three}
+use Rattle.salt_rotation.proofs.KeyStream.{fills}
 use Rattle.salt_rotation.proofs.salts.Salts.draw.Goals as goal
 
 pub invariant_of-self : goal.invariant_of-self
 invariant_of-self c =
     let filled =
-    fills-three c.self.inside.seed (2 ^ 60 + 3 * c.self.inside.made) _ _ _
+    fills c.self.inside.seed (2 ^ 60 + 3 * c.self.inside.made) 12 _ _ _
     c.self.invariant.at_next_vector (omega arith) c.fill_bytes_via_u32.ensures in
     let room = rw (← c.self.view_is) at c.requires in
     record {
       limit_positive = c.self.invariant.limit_positive;
       limit_fits = c.self.invariant.limit_fits;
       made_fits = omega (arith, room);
-      at_next_vector = ap (λ p. p.1) filled ∙ ap (generator_at c.self.inside.seed) (omega arith);
+      at_next_vector = filled.1 ∙ ap (generator_at c.self.inside.seed) (omega arith);
       salt_kept = c.kept_or_computed-self-inside.ensures;
     }
 
@@ -22,8 +22,6 @@ pub returns-clause-value : goal.returns-clause-value
 unfolding iv_of
 returns-clause-value c =
     let filled =
-    fills-three c.self.inside.seed (2 ^ 60 + 3 * c.self.inside.made) _ _ _
+    fills c.self.inside.seed (2 ^ 60 + 3 * c.self.inside.made) 12 _ _ _
     c.self.invariant.at_next_vector (omega arith) c.fill_bytes_via_u32.ensures in
-    let iv : c.fill_bytes_via_u32.new.dst ≡ seed_bytes c.self.inside.seed (2 ^ 60 + 3 * c.self.inside.made) 3 =
-    ap (λ p. p.0) filled in
-    rw (← c.self.view_is, c.kept_or_computed-self-inside.ensures, iv) refl
+    rw (← c.self.view_is, c.kept_or_computed-self-inside.ensures, filled.0) refl
