@@ -1,1 +1,4 @@
 pub mod Powers
+pub mod Slots
+pub mod Reading
+pub mod Walking

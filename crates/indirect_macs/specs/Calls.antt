@@ -1,26 +1,14 @@
 -- What calls of a shelf leave, and what becomes of an answer where one of them fails.
-use Rattle.std.specs.Prelude.{ℕ, ◌-◌, ◌≤◌, ◌≡◌, Bool, true, false, ⊤, nat_lt, if◌then◌else◌, Option, Some, None, Result, Ok, Err, IfErr}
-use Rattle.shelf_store.specs.ShelfState.{ShelfState, risen}
+use Rattle.std.specs.Prelude.{ℕ, zero, suc, ◌≤◌, ◌≡◌, Bool, true, false, ◌||◌, ⊤, if◌then◌else◌, Option, Result, Ok, Err, IfErr}
+use Rattle.shelf_store.specs.ShelfState.{ShelfState, is_due, armed_after, after_calls}
 use Rattle.indirect_macs.specs.declared.refs.MacError.{MacError}
 use Rattle.indirect_macs.specs.declared.refs.MacError.TheVariants.{MacFailed, ShelfFault, Full, NoMemory}
 use Rattle.indirect_macs.specs.Walk.{place_of}
 
 -- one of the next calls, so many, is the armed one
-unfoldable pub fails_within : ℕ → Option ℕ → Bool
-fails_within calls None = false
-fails_within calls (Some armed) = nat_lt armed calls
-
--- what is armed after so many calls
-unfoldable pub armed_after_calls : ℕ → Option ℕ → Option ℕ
-armed_after_calls calls None = None
-armed_after_calls calls (Some armed) = if nat_lt armed calls then None else Some (armed - calls)
-
--- so many calls of put or get were counted
-abbrev pub after_calls : ℕ → ShelfState → ShelfState
-after_calls calls s = record s {
-  faults = if fails_within calls s.armed then risen s.faults else s.faults;
-  armed = armed_after_calls calls s.armed;
-}
+abbrev pub fails_within : ℕ → Option ℕ → Bool
+fails_within zero armed = false
+fails_within (suc calls) armed = is_due armed || fails_within calls (armed_after armed)
 
 -- an answer that takes so many calls, or a failure of the shelf where one of them is the armed one
 abbrev pub answered : {X : Type 0} → ℕ → Result X MacError → Option ℕ → Result X MacError
@@ -31,6 +19,7 @@ pub record Gave {X : Type 0} (calls : ℕ) (answer result : Result X MacError) (
   pub given : result ≡ answered calls answer old.armed
   pub after : new ≡ after_calls calls old
 
+-- the answer is a failure of the shelf
 abbrev pub is_fault : {X : Type 0} → Result X MacError → Bool
 is_fault (Ok x) = false
 is_fault (Err ShelfFault) = true

@@ -67,5 +67,6 @@ unfoldable pub reads : (held : List (List ℕ)) → (record_size index below : �
 reads held record_size index below None = 0
 reads held record_size index zero (Some node) = reads_of (map length held) 1 node
 reads held record_size index (suc below) (Some node) =
-    reads_of (map length held) (below + 2) node
-    + goes_on (λ next. reads held record_size index below next) (λ _. 0) (next_node held record_size index (below + 2) node)
+    if names_node (map length held) (below + 2) node.addr
+    then suc (goes_on (λ next. reads held record_size index below next) (λ _. 0) (next_node held record_size index (below + 2) node))
+    else 0

@@ -1,7 +1,7 @@
 // The entries of stored nodes.
 ghost use Rattle.std.specs.Prelude.{◌≡◌, ◌≤◌, ◌==◌, length};
 ghost use Rattle.std.specs.List.{list_all};
-ghost use Rattle.indirect_macs.specs.Entries.{block_at, block_under_mac, entry_len, is_entry, node_at, node_under_mac};
+ghost use Rattle.indirect_macs.specs.Entries.{address_at, block_at, block_under_mac, entry_len, is_entry, node_at, node_under_mac};
 
 use crate::refs::{BlockRef, NodeRef};
 use byte_fields::{get_u32, get_u64, put_u32};
@@ -23,6 +23,14 @@ pub fn entry_len(level: u8) -> usize
     } else {
         NODE_ENTRY_LEN
     }
+}
+
+/// Where the address stands in an entry of a node of this level: behind the tag, and at level 1
+/// behind the size.
+pub fn address_at(level: u8) -> usize
+    ensures { result ≡ address_at level }
+{
+    if level == 1 { 5 } else { 1 }
 }
 
 fn is_zeros(bytes: &[u8]) -> bool

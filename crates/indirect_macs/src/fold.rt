@@ -70,9 +70,7 @@ fn block_group_macs(
     'groups: for group in 0..group_count(refs.len()) {
         let start = refs.len().min(ENTRIES * group);
         let end = refs.len().min(start + ENTRIES);
-        if macs.push(block_group_mac(&refs[start..end])).is_err() {
-            return Err(NoMemory);
-        }
+        macs.push(block_group_mac(&refs[start..end]))?;
     }
     Ok(macs)
 }
@@ -88,9 +86,7 @@ fn node_group_macs(
     'groups: for group in 0..group_count(below.len()) {
         let start = below.len().min(ENTRIES * group);
         let end = below.len().min(start + ENTRIES);
-        if macs.push(node_group_mac(&below[start..end], level)).is_err() {
-            return Err(NoMemory);
-        }
+        macs.push(node_group_mac(&below[start..end], level))?;
     }
     Ok(macs)
 }

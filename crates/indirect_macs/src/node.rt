@@ -1,8 +1,10 @@
 // Stored nodes: 32 entries one after another, and the MAC over them.
-ghost use Rattle.std.specs.Prelude.{◌≡◌, length, take};
+ghost use Rattle.std.specs.Prelude.{◌≡◌, ℕ, List, ◌++◌, length, take};
+ghost use Rattle.sha2.specs.Hashers.{Holds512};
+ghost use Rattle.indirect_macs.specs.Entries.{entry_len, without_address};
 ghost use Rattle.indirect_macs.specs.Nodes.{has_entries, node_len, node_mac, node_passes};
 
-use crate::entry::{entry_len, is_entry};
+use crate::entry::{address_at, entry_len, is_entry};
 use sha2::{Digest, Sha512};
 
 /// How many entries a node has.
@@ -21,19 +23,26 @@ fn has_entries(node: &[u8], level: u8, block: u32) -> bool
     true
 }
 
+// Adds what a node's MAC covers of an entry.
+fn update_without_address(hasher: &mut Sha512, entry: &[u8], level: u8)
+    requires { length entry.now ≡ entry_len level }
+    ensures { (covered : List ℕ) → Holds512 hasher.old covered
+        → Holds512 hasher.new (covered ++ without_address level entry.now) }
+{
+    let at = address_at(level);
+    hasher.update(&entry[..at]);
+    hasher.update(&entry[at + 8..]);
+}
+
 fn node_mac(node: &[u8], level: u8) -> [u8; 16]
     requires { length node.now ≡ node_len level }
     ensures { result ≡ node_mac level node.now }
 {
     let len = entry_len(level);
-    // The address stands behind the tag, and at level 1 behind the size.
-    let address_at = if level == 1 { 5 } else { 1 };
     let mut hasher = Sha512::new();
     hasher.update(&[level]);
     'entries: for slot in 0..ENTRIES {
-        let entry = &node[len * slot..len * slot + len];
-        hasher.update(&entry[..address_at]);
-        hasher.update(&entry[address_at + 8..]);
+        update_without_address(&mut hasher, &node[len * slot..len * slot + len], level);
     }
     cut(&hasher.finalize())
 }

@@ -1,14 +1,14 @@
 // The walk from the top of a tree to one block.
-ghost use Rattle.std.specs.Prelude.{◌≡◌, ◌<◌, ◌≤◌, ◌^◌, ◌-◌, length, map, Ok, None, IfSome, IfNone, OnOk, Some, Result};
-ghost use Rattle.shelf_store.specs.ShelfState.{ShelfState};
+ghost use Rattle.std.specs.Prelude.{◌≡◌, ◌<◌, ◌≤◌, ◌^◌, ◌-◌, length, map, Ok, None, IfSome, IfNone, IfErr, OnOk, Some, is_err, slice_get};
+ghost use Rattle.shelf_store.specs.ShelfState.{HasToldSizes, counted, is_due};
 ghost use Rattle.indirect_macs.specs.Nodes.{node_len};
-ghost use Rattle.indirect_macs.specs.Walk.{fails_at, next_block, next_node, passed, place_of, reads, reads_of, slot_of, tested, walk};
+ghost use Rattle.indirect_macs.specs.Walk.{fails_at, names_node, next_block, next_node, passed, place_of, reads, reads_of, slot_of, tested, walk};
 ghost use Rattle.indirect_macs.specs.Calls.{Answers, Gave};
 
-use crate::entry::{BLOCK_ENTRY_LEN, NODE_ENTRY_LEN, block_at, node_at};
+use crate::entry::{BLOCK_ENTRY_LEN, NODE_ENTRY_LEN, block_at, entry_len, node_at};
 use crate::node::{ENTRIES, node_passes};
 use crate::refs::{BlockRef, MacError, NodeRef, ObjTree};
-use shelf_store::Shelf;
+use shelf_store::{Failed, Shelf};
 
 // How many bits of a block's index choose the entry of a node.
 const ENTRY_BITS: u32 = 5;
@@ -41,8 +41,30 @@ fn fails_at(level: u8, index: u32) -> MacError
     }
 }
 
-// Reads the node that a reference names, and tests it. A reference that names no block of the size
-// of `out` fails without a call of the shelf.
+// Whether a block of the size of a node of this level has the address.
+#[tactic(auto, unfolding(crate::specs::Walk::names_node))]
+fn names_node<B: Shelf>(shelf: &B, addr: u64, level: u8) -> bool
+    ensures value { result ≡ names_node (B.told shelf.now).sizes level addr }
+    ensures sizes { HasToldSizes (B.told shelf.now) }
+{
+    shelf.size(addr) == Some((ENTRIES * entry_len(level)) as u32)
+}
+
+fn read<B: Shelf>(shelf: &mut B, addr: u64, out: &mut [u8]) -> Result<(), MacError>
+    requires { slice_get (B.told shelf.old).sizes addr ≡ Some (length out.old) }
+    ensures due { is_err result ≡ is_due (B.told shelf.old).armed }
+    ensures fault { IfErr result (λ stop. stop ≡ MacError.ShelfFault) }
+    ensures after { B.told shelf.new ≡ counted (B.told shelf.old) }
+    ensures bytes { OnOk result (IfSome (B.told shelf.old).held (λ blocks. slice_get blocks addr ≡ Some out.new)) }
+{
+    match shelf.get(addr, out) {
+        Ok(()) => Ok(()),
+        Err(Failed) => Err(MacError::ShelfFault),
+    }
+}
+
+// Reads the node that a reference names into `out`, and tests it. A reference that names no block of
+// a node's size fails without a call of the shelf.
 fn read_node<B: Shelf>(
     shelf: &mut B,
     node: &NodeRef,
@@ -59,11 +81,11 @@ fn read_node<B: Shelf>(
         (tested blocks block index level node.now) result (B.told shelf.old) (B.told shelf.new)) }
     ensures bytes { OnOk result (IfSome (B.told shelf.old).held (λ blocks. passed blocks block level node.now ≡ Some out.new)) }
 {
-    if shelf.size(node.addr) != Some(out.len() as u32) {
+    if !names_node(shelf, node.addr, level) {
         return Err(fails_at(level, index));
     }
-    if shelf.get(node.addr, out).is_err() {
-        return Err(MacError::ShelfFault);
+    if let Err(stop) = read(shelf, node.addr, out) {
+        return Err(stop);
     }
     if !node_passes(out, level, &node.mac, block) {
         return Err(fails_at(level, index));
@@ -86,9 +108,13 @@ fn node_below<B: Shelf>(
         (next_node blocks block index level node.now) result (B.told shelf.old) (B.told shelf.new)) }
 {
     let mut bytes = [0; ENTRIES * NODE_ENTRY_LEN];
-    read_node(shelf, node, level, index, block, &mut bytes)?;
-    let at = NODE_ENTRY_LEN * slot_of(level, index);
-    Ok(node_at(&bytes[at..at + NODE_ENTRY_LEN]))
+    match read_node(shelf, node, level, index, block, &mut bytes) {
+        Ok(()) => {
+            let at = NODE_ENTRY_LEN * slot_of(level, index);
+            Ok(node_at(&bytes[at..at + NODE_ENTRY_LEN]))
+        }
+        Err(stop) => Err(stop),
+    }
 }
 
 // The reference to a block, below the node of level 1 over it.
@@ -103,9 +129,13 @@ fn block_below<B: Shelf>(
         (next_block blocks block index node.now) result (B.told shelf.old) (B.told shelf.new)) }
 {
     let mut bytes = [0; ENTRIES * BLOCK_ENTRY_LEN];
-    read_node(shelf, node, 1, index, block, &mut bytes)?;
-    let at = BLOCK_ENTRY_LEN * slot_of(1, index);
-    Ok(block_at(&bytes[at..at + BLOCK_ENTRY_LEN]))
+    match read_node(shelf, node, 1, index, block, &mut bytes) {
+        Ok(()) => {
+            let at = BLOCK_ENTRY_LEN * slot_of(1, index);
+            Ok(block_at(&bytes[at..at + BLOCK_ENTRY_LEN]))
+        }
+        Err(stop) => Err(stop),
+    }
 }
 
 // Goes on from a reference to a node of this level.

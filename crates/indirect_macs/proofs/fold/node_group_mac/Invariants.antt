@@ -6,4 +6,4 @@ use Rattle.indirect_macs.proofs.fold.node_group_mac.Given as goal
 
 -- the hasher holds the level and what is covered of the entries so far
 abbrev pub invariant-entries : goal.invariant-entries
-invariant-entries l = Holds512 l.hasher (l.level ∷ flat_map node_under_mac (take l.entry-index l.entries))
+invariant-entries l = Holds512 l.hasher (l.level ∷ flat_map node_under_mac (take l.entry-index l.entry-items))
