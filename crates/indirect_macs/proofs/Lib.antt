@@ -2,3 +2,4 @@ pub mod Powers
 pub mod Slots
 pub mod Reading
 pub mod Walking
+pub mod Groups

@@ -1,10 +1,12 @@
 // The entries of stored nodes.
-ghost use Rattle.std.specs.Prelude.{◌≡◌, ◌≤◌, ◌==◌, length};
+ghost use Rattle.std.specs.Prelude.{◌≡◌, ◌≤◌, ◌==◌, ℕ, List, ◌++◌, length};
 ghost use Rattle.std.specs.List.{list_all};
+ghost use Rattle.sha2.specs.Hashers.{Holds512};
 ghost use Rattle.indirect_macs.specs.Entries.{address_at, block_at, block_under_mac, entry_len, is_entry, node_at, node_under_mac};
 
 use crate::refs::{BlockRef, NodeRef};
 use byte_fields::{get_u32, get_u64, put_u32};
+use sha2::{Digest, Sha512};
 
 /// How many bytes an entry of a node of level 1 has, and one of a node above.
 pub const BLOCK_ENTRY_LEN: usize = 49;
@@ -100,29 +102,34 @@ pub fn node_at(entry: &[u8]) -> Option<NodeRef>
     })
 }
 
-/// What a node's MAC covers of a reference to a block: tag, size, salt, initialization vector, MAC.
-pub fn block_under_mac(entry: &Option<BlockRef>) -> [u8; 41]
-    ensures { result ≡ block_under_mac entry.now }
+/// Adds what a node's MAC covers of a reference to a block: tag, size, salt, initialization vector and
+/// MAC.
+pub fn update_block(hasher: &mut Sha512, entry: &Option<BlockRef>)
+    ensures { (covered : List ℕ) → Holds512 hasher.old covered → Holds512 hasher.new (covered ++ block_under_mac entry.now) }
 {
-    let mut bytes = [0; 41];
-    if let Some(block) = entry {
-        bytes[0] = 1;
-        put_u32(&mut bytes, SIZE_AT, block.size);
-        bytes[5..13].copy_from_slice(&block.salt);
-        bytes[13..25].copy_from_slice(&block.iv);
-        bytes[25..41].copy_from_slice(&block.mac);
+    match entry {
+        Some(block) => {
+            let mut size = [0; 4];
+            put_u32(&mut size, 0, block.size);
+            hasher.update(&[1]);
+            hasher.update(&size);
+            hasher.update(&block.salt);
+            hasher.update(&block.iv);
+            hasher.update(&block.mac);
+        }
+        None => hasher.update(&[0; 41]),
     }
-    bytes
 }
 
-/// What a node's MAC covers of a reference to a node: tag, MAC.
-pub fn node_under_mac(entry: &Option<[u8; 16]>) -> [u8; 17]
-    ensures { result ≡ node_under_mac entry.now }
+/// Adds what a node's MAC covers of a reference to a node of this MAC: tag and MAC.
+pub fn update_node(hasher: &mut Sha512, entry: &Option<[u8; 16]>)
+    ensures { (covered : List ℕ) → Holds512 hasher.old covered → Holds512 hasher.new (covered ++ node_under_mac entry.now) }
 {
-    let mut bytes = [0; 17];
-    if let Some(mac) = entry {
-        bytes[0] = 1;
-        bytes[1..].copy_from_slice(mac);
+    match entry {
+        Some(mac) => {
+            hasher.update(&[1]);
+            hasher.update(mac);
+        }
+        None => hasher.update(&[0; 17]),
     }
-    bytes
 }

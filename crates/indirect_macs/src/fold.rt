@@ -1,10 +1,11 @@
 // The MAC of the top of the tree over a list of blocks.
-ghost use Rattle.std.specs.Prelude.{◌≡◌, ◌≤◌, ◌<◌, ◌*◌, length, IfOk, is_none};
-ghost use Rattle.std.specs.List.{list_all};
+ghost use Rattle.std.specs.Prelude.{◌≡◌, ◌≤◌, ◌<◌, ◌^◌, length, IfOk, is_none};
+ghost use Rattle.std.specs.List.{flat_map, list_all};
 ghost use Rattle.indirect_macs.specs.Entries.{block_under_mac, node_under_mac};
-ghost use Rattle.indirect_macs.specs.Fold.{fold_mac, group_count, group_mac, group_macs};
+ghost use Rattle.indirect_macs.specs.Nodes.{mac_of};
+ghost use Rattle.indirect_macs.specs.Fold.{filled_up, fold_mac, group_at, group_count, group_mac, group_macs};
 
-use crate::entry::{block_under_mac, node_under_mac};
+use crate::entry::{update_block, update_node};
 use crate::node::{ENTRIES, cut};
 use crate::refs::BlockRef;
 use sha2::{Digest, Sha512};
@@ -17,7 +18,51 @@ fn are_holes<T>(entries: &[Option<T>]) -> bool
     entries.iter().all(|entry| entry.is_none())
 }
 
+// Entries with holes behind them, up to a node's number.
+fn filled_blocks(group: &[Option<BlockRef>]) -> [Option<BlockRef>; 32]
+    requires { length group.now ≤ 32 }
+    ensures { result ≡ filled_up group.now }
+{
+    let mut entries = [None; ENTRIES];
+    entries[..group.len()].copy_from_slice(group);
+    entries
+}
+
+fn filled_nodes(group: &[Option<[u8; 16]>]) -> [Option<[u8; 16]>; 32]
+    requires { length group.now ≤ 32 }
+    ensures { result ≡ filled_up group.now }
+{
+    let mut entries = [None; ENTRIES];
+    entries[..group.len()].copy_from_slice(group);
+    entries
+}
+
+// The MAC of the node of level 1 over these blocks.
+fn blocks_mac(entries: &[Option<BlockRef>]) -> [u8; 16]
+    ensures { result ≡ mac_of 1 (flat_map block_under_mac entries.now) }
+{
+    let mut hasher = Sha512::new();
+    hasher.update(&[1]);
+    'entries: for entry in entries {
+        update_block(&mut hasher, entry);
+    }
+    cut(&hasher.finalize())
+}
+
+// The MAC of the node of this level over nodes of these MACs.
+fn nodes_mac(entries: &[Option<[u8; 16]>], level: u8) -> [u8; 16]
+    ensures { result ≡ mac_of level (flat_map node_under_mac entries.now) }
+{
+    let mut hasher = Sha512::new();
+    hasher.update(&[level]);
+    'entries: for entry in entries {
+        update_node(&mut hasher, entry);
+    }
+    cut(&hasher.finalize())
+}
+
 // The MAC of the node of level 1 over these blocks, or None where all are holes.
+#[tactic(auto, unfolding(crate::specs::Fold::group_mac))]
 fn block_group_mac(group: &[Option<BlockRef>]) -> Option<[u8; 16]>
     requires { length group.now ≤ 32 }
     ensures { result ≡ group_mac 1 block_under_mac group.now }
@@ -25,17 +70,11 @@ fn block_group_mac(group: &[Option<BlockRef>]) -> Option<[u8; 16]>
     if are_holes(group) {
         return None;
     }
-    let mut entries = [None; ENTRIES];
-    entries[..group.len()].copy_from_slice(group);
-    let mut hasher = Sha512::new();
-    hasher.update(&[1]);
-    'entries: for entry in &entries {
-        hasher.update(&block_under_mac(entry));
-    }
-    Some(cut(&hasher.finalize()))
+    Some(blocks_mac(&filled_blocks(group)))
 }
 
-// The MAC of the node of this level over nodes with these MACs, or None where all are holes.
+// The MAC of the node of this level over nodes of these MACs, or None where all are holes.
+#[tactic(auto, unfolding(crate::specs::Fold::group_mac))]
 fn node_group_mac(group: &[Option<[u8; 16]>], level: u8) -> Option<[u8; 16]>
     requires { length group.now ≤ 32 }
     ensures { result ≡ group_mac level node_under_mac group.now }
@@ -43,14 +82,7 @@ fn node_group_mac(group: &[Option<[u8; 16]>], level: u8) -> Option<[u8; 16]>
     if are_holes(group) {
         return None;
     }
-    let mut entries = [None; ENTRIES];
-    entries[..group.len()].copy_from_slice(group);
-    let mut hasher = Sha512::new();
-    hasher.update(&[level]);
-    'entries: for entry in &entries {
-        hasher.update(&node_under_mac(entry));
-    }
-    Some(cut(&hasher.finalize()))
+    Some(nodes_mac(&filled_nodes(group), level))
 }
 
 // How many groups of 32 there are; an empty list is one group.
@@ -58,6 +90,18 @@ fn group_count(entries: usize) -> usize
     ensures { result ≡ group_count entries }
 {
     entries.div_ceil(ENTRIES).max(1)
+}
+
+// The entries of a group, of which the last may have fewer.
+fn group_at<T>(entries: &[T], group: usize) -> &[T]
+    requires { length entries.now < 2 ^ 63 }
+    ensures entries { result.now ≡ group_at entries.now group }
+    ensures bound { length result.now ≤ 32 }
+{
+    let count = entries.len();
+    let start = count.min(ENTRIES.saturating_mul(group));
+    let end = count.min(start + ENTRIES);
+    &entries[start..end]
 }
 
 fn block_group_macs(
@@ -68,9 +112,7 @@ fn block_group_macs(
 {
     let mut macs = Vec::new(alloc);
     'groups: for group in 0..group_count(refs.len()) {
-        let start = refs.len().min(ENTRIES * group);
-        let end = refs.len().min(start + ENTRIES);
-        macs.push(block_group_mac(&refs[start..end]))?;
+        macs.push(block_group_mac(group_at(refs, group)))?;
     }
     Ok(macs)
 }
@@ -84,9 +126,7 @@ fn node_group_macs(
 {
     let mut macs = Vec::new(alloc);
     'groups: for group in 0..group_count(below.len()) {
-        let start = below.len().min(ENTRIES * group);
-        let end = below.len().min(start + ENTRIES);
-        macs.push(node_group_mac(&below[start..end], level))?;
+        macs.push(node_group_mac(group_at(below, group), level))?;
     }
     Ok(macs)
 }
