@@ -3,3 +3,5 @@ pub mod Slots
 pub mod Reading
 pub mod Walking
 pub mod Groups
+pub mod Spelling
+pub mod FirstPlace

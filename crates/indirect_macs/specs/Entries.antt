@@ -1,5 +1,5 @@
 -- The entries of stored nodes. An entry of a node of level 1 is a reference to a block, in 49 bytes: tag, size 4, address 8, salt 8, initialization vector 12, MAC 16. An entry of a node above is a reference to a node of the level below, in 25 bytes: tag, address 8, MAC 16. The tag is 1; a hole is zeros. Numbers have their lowest byte first.
-use Rattle.std.specs.Prelude.{ℕ, ◌+◌, ◌*◌, ◌==◌, ◌&&◌, ◌||◌, Bool, true, nat_le, if◌then◌else◌, List, ◌∷◌, ◌++◌, take, drop, replicate, slice_index, Option, Some, None}
+use Rattle.std.specs.Prelude.{ℕ, ◌+◌, ◌^◌, ◌<◌, ◌≡◌, ◌==◌, ◌&&◌, ◌||◌, Bool, true, IsTrue, nat_le, if◌then◌else◌, List, ◌∷◌, ◌++◌, length, take, drop, replicate, slice_index, Option, Some, None}
 use Rattle.std.specs.List.{list_all}
 use Rattle.byte_fields.specs.LittleEndian.{little_endian_bytes, little_endian_value}
 use Rattle.indirect_macs.specs.declared.refs.BlockRef.{BlockRef}
@@ -68,3 +68,17 @@ is_entry level record_size entry =
 -- what a node's MAC covers of the bytes of an entry
 abbrev pub without_address : (level : ℕ) → List ℕ → List ℕ
 without_address level entry = take (address_at level) entry ++ drop (address_at level + 8) entry
+
+-- a reference to a block of 1 to the record size's bytes, whose fields fit
+pub record IsBlockRef (record_size : ℕ) (r : BlockRef) : Type 0 where
+  pub size : IsTrue (is_size record_size r.size)
+  pub size_fits : r.size < 2 ^ 32
+  pub addr_fits : r.addr < 2 ^ 64
+  pub salt : length r.salt ≡ 8
+  pub iv : length r.iv ≡ 12
+  pub mac : length r.mac ≡ 16
+
+-- a reference to a node, whose fields fit
+pub record IsNodeRef (r : NodeRef) : Type 0 where
+  pub addr_fits : r.addr < 2 ^ 64
+  pub mac : length r.mac ≡ 16

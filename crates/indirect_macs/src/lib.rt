@@ -7,10 +7,18 @@
 
 mod entry;
 mod fold;
+mod laws;
 mod node;
 mod refs;
 mod walk;
 
 pub use fold::fold_mac;
+pub use laws::{
+    block_nodes_have_one_spelling, ref_nodes_have_one_spelling,
+    walks_stop_at_the_first_place_that_fails,
+};
 pub use refs::{BlockRef, MacError, NodeRef, ObjTree};
 pub use walk::lookup;
+
+#[cfg(test)]
+mod tests;
