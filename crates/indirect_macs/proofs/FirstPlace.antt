@@ -1,14 +1,13 @@
 -- The walk stops at the first place from the top that fails.
-use Rattle.std.proofs.Common.{◌≡◌, ℕ, zero, suc, ◌+◌, ◌<◌, ◌≤◌, Bool, true, false, ◌&&◌, ◌==◌, List, length, refl, sym, ap, subst, ◌∙◌, arith, Option, Some, None, Result, Ok, Err, if◌then◌else◌}
+use Rattle.std.proofs.Common.{◌≡◌, ℕ, zero, suc, ◌+◌, ◌<◌, Bool, true, false, ◌&&◌, ◌==◌, List, length, refl, sym, ap, subst, ◌∙◌, arith, Option, Some, None, Result, Ok, Err, if◌then◌else◌}
 use Rattle.std.specs.Prelude.{IsSome}
 use Rattle.std.specs.List.{slice_get}
-use Rattle.std.specs.Option.{option_map, option_map_or, option_and_then}
+use Rattle.std.specs.Option.{option_and_then}
 use Rattle.indirect_macs.specs.declared.refs.BlockRef.{BlockRef}
 use Rattle.indirect_macs.specs.declared.refs.NodeRef.{NodeRef}
 use Rattle.indirect_macs.specs.declared.refs.MacError.{MacError}
-use Rattle.indirect_macs.specs.Entries.{block_at, node_at}
-use Rattle.indirect_macs.specs.Nodes.{node_len, node_passes, entry_at}
-use Rattle.indirect_macs.specs.Walk.{slot_of, passed, fails_at, next_block, next_node, goes_on, walk}
+use Rattle.indirect_macs.specs.Nodes.{node_len, node_passes}
+use Rattle.indirect_macs.specs.Walk.{passed, fails_at, next_block, next_node, walk}
 use Rattle.indirect_macs.specs.Places.{Place, next_ref, place_at, block_in}
 
 -- what passes is what is held
@@ -29,7 +28,7 @@ passed_held held record_size level node bytes is =
 
 -- the value that is there
 value_of : {X : Type 0} (o : Option X) → IsSome o → (x : X) × (o ≡ Some x)
-value_of None is = absurd is
+value_of None is = absurd (cc)
 value_of (Some x) is = (x, refl)
 
 -- below a hole there are no places
@@ -54,9 +53,9 @@ goes_below : (held : List (List ℕ)) (record_size index below : ℕ) (node : No
 unfolding walk next_node next_ref
 goes_below held record_size index below node passes =
     let level : suc below + 1 ≡ below + 2 = omega arith in
-    let value = value_of (passed held record_size (suc below + 1) node) passes in
-    let is : passed held record_size (below + 2) node ≡ Some value.0 = rw level at value.1 in
-    rw (is, passed_held held record_size (below + 2) node value.0 is) refl
+    let here = subst (λ (l : ℕ). IsSome (passed held record_size l node)) level passes in
+    let value = value_of (passed held record_size (below + 2) node) here in
+    rw (value.1, passed_held held record_size (below + 2) node value.0 value.1) refl
 
 pub first_fails : (held : List (List ℕ)) (record_size index below : ℕ) (top : Option NodeRef) (depth : ℕ) (place : Place)
     → place_at held index below top depth ≡ Some place → passed held record_size place.level place.node ≡ None
@@ -85,8 +84,10 @@ unfolding place_at walk next_block block_in
 all_pass held record_size index below None passes = no_walk below
   where
     no_walk : (below : ℕ) → walk held record_size index below None ≡ Ok (block_in held index (place_at held index below None below))
-    no_walk zero = rw (no_place held index zero zero) refl
-    no_walk (suc below) = rw (no_place held index (suc below) (suc below)) refl
+    no_walk zero = refl
+    no_walk (suc below) =
+        ap (λ (o : Option Place). let found : Result (Option BlockRef) MacError = Ok (block_in held index o) in found)
+        (sym (no_place held index (suc below) (suc below)))
 all_pass held record_size index zero (Some node) passes = lowest (passes 0 (record { level = 1; node = node }) refl)
   where
     lowest : IsSome (passed held record_size 1 node)

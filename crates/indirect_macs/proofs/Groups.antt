@@ -1,16 +1,15 @@
 -- Groups of 32 entries, and how the number of groups falls.
-use Rattle.std.proofs.Common.{◌≡◌, ℕ, zero, suc, ◌+◌, ◌-◌, ◌*◌, ◌/◌, ◌%◌, ◌^◌, ◌<◌, ◌≤◌, Bool, true, false, List, [], ◌∷◌, ◌++◌, length, map, take, drop, replicate, get_or, refl, sym, ap, ◌∙◌, inl, inr, arith, length-append, length-drop, Option, Some, None}
-use Rattle.std.specs.Prelude.{max, min, nat_le, nat_lt}
-use Rattle.std.specs.Int.{div_ceil}
+use Rattle.std.proofs.Common.{◌≡◌, ℕ, zero, suc, ◌+◌, ◌-◌, ◌*◌, ◌^◌, ◌<◌, ◌≤◌, true, false, List, [], ◌∷◌, ◌++◌, length, map, take, drop, replicate, get_or, refl, sym, ap, ◌∙◌, inl, inr, arith, length-drop, Option, None}
+use Rattle.std.specs.Prelude.{min, nat_le}
 use Rattle.std.specs.List.{flat_map, range_with_len}
 use Rattle.std.proofs.lemmas.List.{take_all, drop_all, drop-replicate, append-nil, take_more}
 use Rattle.std.proofs.lemmas.List.Concat.{flat_map-append}
 use Rattle.std.proofs.lemmas.List.FromFn.{length-map-range_with_len, map-range_with_len_more}
 use Rattle.std.proofs.lemmas.Bool.{cases_lt}
 use Rattle.std.proofs.Math.Pow.{pow_mono}
-use Rattle.std.proofs.Math.Nat.{mul-le-mul_left, pow-suc, mul_comm, mul_assoc}
+use Rattle.std.proofs.Math.Nat.{mul-le-mul_left, pow-suc, mul_assoc}
 use Rattle.indirect_macs.specs.Entries.{node_under_mac}
-use Rattle.indirect_macs.specs.Fold.{group_at, group_count, group_mac, group_macs, filled_up, folded}
+use Rattle.indirect_macs.specs.Fold.{group_at, group_count, group_macs, filled_up, folded}
 
 -- a part that begins at the end at most, and has 32 entries at most
 pub group_cut : {A : Type 0} (entries : List A) (start len group : ℕ) → start ≡ min (length entries) (32 * group) → len ≡ min 32 (length entries - start)

@@ -1,6 +1,6 @@
 -- Powers of 32 as shifts.
 use Rattle.std.proofs.Common.{◌≡◌, ℕ, zero, suc, ◌+◌, ◌*◌, ◌^◌, pow-add, refl, ap, sym, ◌∙◌, arith}
-use Rattle.std.proofs.Math.Nat.{pow-suc, mul_comm}
+use Rattle.std.proofs.Math.Nat.{pow-suc}
 
 pub pow-32 : (k : ℕ) → 2 ^ (5 * k) ≡ 32 ^ k
 pow-32 zero = refl

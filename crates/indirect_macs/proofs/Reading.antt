@@ -1,17 +1,17 @@
 -- What the reading of a node gives, over plain variables.
-use Rattle.std.proofs.Common.{◌≡◌, ℕ, zero, suc, ◌+◌, ◌*◌, ◌<◌, ◌≤◌, Bool, true, false, ◌&&◌, ◌==◌, List, length, map, refl, sym, ap, ◌∙◌, arith, Option, Some, None, Result, Ok, Err, if◌then◌else◌}
-use Rattle.std.specs.Prelude.{IfSome, IfErr, ⊤}
-use Rattle.std.specs.List.{slice_get, slice_index}
-use Rattle.std.specs.Option.{option_map, option_eq, option_and_then, option_map_or}
+use Rattle.std.proofs.Common.{◌≡◌, ℕ, Bool, true, false, ◌&&◌, ◌==◌, List, length, map, refl, ap, Option, Some, None, Result, Ok, Err, if◌then◌else◌}
+use Rattle.std.specs.Prelude.{IfSome}
+use Rattle.std.specs.List.{slice_get}
+use Rattle.std.specs.Option.{option_map, option_eq, option_and_then}
 use Rattle.std.proofs.lemmas.Bool.{eq-eqb, eqb-true}
-use Rattle.std.proofs.lemmas.Option.{IfSome_then, slice_get-map, slice_get_within, get_or_from_slice_get}
-use Rattle.shelf_store.specs.ShelfState.{ShelfState, HasToldSizes, is_due, counted, after_calls}
+use Rattle.std.proofs.lemmas.Option.{IfSome_then, slice_get-map}
+use Rattle.shelf_store.specs.ShelfState.{ShelfState, HasToldSizes, is_due, counted}
 use Rattle.indirect_macs.specs.declared.refs.NodeRef.{NodeRef}
 use Rattle.indirect_macs.specs.declared.refs.MacError.{MacError}
-use Rattle.indirect_macs.specs.declared.refs.MacError.TheVariants.{MacFailed, ShelfFault}
+use Rattle.indirect_macs.specs.declared.refs.MacError.TheVariants.{ShelfFault}
 use Rattle.indirect_macs.specs.Nodes.{node_len, node_passes}
 use Rattle.indirect_macs.specs.Walk.{names_node, passed, fails_at, tested, reads_of}
-use Rattle.indirect_macs.specs.Calls.{answered, is_fault, fails_within, Gave, Answers, IsOver}
+use Rattle.indirect_macs.specs.Calls.{Gave}
 
 -- ---- what an address names
 
@@ -65,16 +65,16 @@ pub read_unnamed : (record_size index level : ℕ) (node : NodeRef) (s : ShelfSt
     → IfSome s.held (λ held. Gave (reads_of (map length held) level node) (tested held record_size index level node) (Err (fails_at level index)) s s)
 read_unnamed record_size index level node s sizes other =
     IfSome_then s.held sizes.of_held (λ held same.
-      let unnamed : names_node (map length held) level node.addr ≡ false = rw same other in
-      rw (unnamed, passed_unnamed held record_size level node unnamed) (gave_none _ _ s refl))
+    let unnamed : names_node (map length held) level node.addr ≡ false = rw same other in
+    rw (unnamed, passed_unnamed held record_size level node unnamed) (gave_none _ _ s refl))
 
 pub read_due : (record_size index level : ℕ) (node : NodeRef) (s new : ShelfState) → HasToldSizes s
     → names_node s.sizes level node.addr ≡ true → is_due s.armed ≡ true → new ≡ counted s
     → IfSome s.held (λ held. Gave (reads_of (map length held) level node) (tested held record_size index level node) (Err ShelfFault) s new)
 read_due record_size index level node s new sizes is due after =
     IfSome_then s.held sizes.of_held (λ held same.
-      let named : names_node (map length held) level node.addr ≡ true = rw same is in
-      rw named (gave_due _ s new due after))
+    let named : names_node (map length held) level node.addr ≡ true = rw same is in
+    rw named (gave_due _ s new due after))
 
 pub both : {X : Type 0} (o : Option X) {P Q R : X → Type 0} → IfSome o P → IfSome o Q → ((x : X) → P x → Q x → R x) → IfSome o R
 both None p q f = p
@@ -93,8 +93,8 @@ pub read_done : (record_size index level : ℕ) (node : NodeRef) (s new : ShelfS
     → IfSome s.held (λ held. Gave (reads_of (map length held) level node) (tested held record_size index level node) (Ok tt) s new)
 read_done record_size index level node s new bytes sizes is idle after whole passes found =
     both s.held sizes.of_held found (λ held lengths there.
-      let named : names_node (map length held) level node.addr ≡ true = rw lengths is in
-      rw (named, passed_read held record_size level node bytes true there whole passes) (gave_done _ _ s new idle after refl))
+    let named : names_node (map length held) level node.addr ≡ true = rw lengths is in
+    rw (named, passed_read held record_size level node bytes true there whole passes) (gave_done _ _ s new idle after refl))
 
 pub read_failed : (record_size index level : ℕ) (node : NodeRef) (s new : ShelfState) (bytes : List ℕ)
     → HasToldSizes s → names_node s.sizes level node.addr ≡ true → is_due s.armed ≡ false → new ≡ counted s
@@ -103,5 +103,5 @@ pub read_failed : (record_size index level : ℕ) (node : NodeRef) (s new : Shel
     → IfSome s.held (λ held. Gave (reads_of (map length held) level node) (tested held record_size index level node) (Err (fails_at level index)) s new)
 read_failed record_size index level node s new bytes sizes is idle after whole fails found =
     both s.held sizes.of_held found (λ held lengths there.
-      let named : names_node (map length held) level node.addr ≡ true = rw lengths is in
-      rw (named, passed_read held record_size level node bytes false there whole fails) (gave_done _ _ s new idle after refl))
+    let named : names_node (map length held) level node.addr ≡ true = rw lengths is in
+    rw (named, passed_read held record_size level node bytes false there whole fails) (gave_done _ _ s new idle after refl))

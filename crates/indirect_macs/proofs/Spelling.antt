@@ -1,22 +1,22 @@
 -- Stored nodes have one spelling.
-use Rattle.std.proofs.Common.{◌≡◌, ◌≢◌, ℕ, zero, suc, ◌+◌, ◌-◌, ◌*◌, ◌^◌, ◌<◌, ◌≤◌, Bool, true, false, ◌&&◌, ◌||◌, ◌==◌, List, [], ◌∷◌, ◌++◌, length, map, take, drop, replicate, get_or, slice_index, refl, sym, ap, subst, ◌∙◌, inl, inr, arith, length-append, length-take, length-drop, Option, Some, None, if◌then◌else◌}
-use Rattle.std.specs.Prelude.{All, IfSome, IsTrue, nat_le}
+use Rattle.std.proofs.Common.{◌≡◌, ℕ, zero, suc, ◌+◌, ◌*◌, ◌<◌, ◌≤◌, Bool, true, false, ◌&&◌, ◌==◌, List, [], ◌∷◌, ◌++◌, length, map, take, drop, replicate, get_or, slice_index, refl, sym, ap, subst, ◌∙◌, inl, inr, arith, length-append, length-take, length-drop, Option, Some, None}
+use Rattle.std.specs.Prelude.{All, IfSome}
 use Rattle.std.specs.List.{list_all, flat_map, range_with_len}
 use Rattle.std.specs.Option.{option_map}
-use Rattle.std.proofs.lemmas.Bool.{eq-eqb, ne_eqb, eqb-true, cases_lt}
-use Rattle.std.proofs.lemmas.List.{take_at, drop_at, take_all, append-nil, append_assoc, take-append-drop, drop_more, get_or-take, get_or_past, get_or-drop, drop-drop, length-take-le}
+use Rattle.std.proofs.lemmas.Bool.{ne_eqb, eqb-true, cases_lt}
+use Rattle.std.proofs.lemmas.List.{take_at, drop_at, take_all, append_assoc, get_or-take, get_or_past, get_or-drop, drop-drop, length-take-le}
 use Rattle.std.proofs.lemmas.List.Elements.{All-head, All-tail, All-weaker, All-get_or}
 use Rattle.std.proofs.lemmas.List.FromFn.{fill_by_all, length-range_with_len, get_or-range_with_len}
 use Rattle.std.proofs.lemmas.List.Folds.{flat_map-map}
 use Rattle.std.proofs.Math.Seq.{take-add}
 use Rattle.std.proofs.Math.Nat.{mul-le-mul_left}
 use Rattle.byte_fields.specs.LittleEndian.{little_endian_bytes, little_endian_value}
-use Rattle.byte_fields.proofs.FieldLaws.{length-little_endian_bytes, little_endian_value-bytes, little_endian_bytes-value}
+use Rattle.byte_fields.proofs.FieldLaws.{little_endian_value-bytes, little_endian_bytes-value}
 use Rattle.indirect_macs.specs.declared.refs.BlockRef.{BlockRef}
 use Rattle.indirect_macs.specs.declared.refs.NodeRef.{NodeRef}
 use Rattle.indirect_macs.specs.Entries.{block_entry, node_entry, block_under_mac, node_under_mac, block_at, node_at, is_entry, is_size, without_address, IsBlockRef, IsNodeRef}
 use Rattle.indirect_macs.specs.Nodes.{slots, entry_at, block_node, ref_node, blocks_of, refs_of, has_entries, mac_of, node_mac}
-use Rattle.indirect_macs.proofs.Slots.{range_more, flat_more, all_more}
+use Rattle.indirect_macs.proofs.Slots.{flat_more, all_more}
 
 -- ---- pieces of one width, one after another
 
@@ -92,7 +92,7 @@ read_pieces : {X : Type 0} (f : X → List ℕ) (g : List ℕ → X) (width : �
 unfolding slots
 read_pieces f g width xs d whole widths same =
     sym (fill_by_all (λ slot. g (take width (drop (width * slot) (flat_map f xs)))) xs 32 d whole (λ k within.
-      sym (ap g (piece_at f width xs d k widths (omega (arith, whole, within))) ∙ All-get_or (λ x. g (f x) ≡ x) xs k d (omega (arith, whole, within)) same)))
+    sym (ap g (piece_at f width xs d k widths (omega (arith, whole, within))) ∙ All-get_or (λ x. g (f x) ≡ x) xs k d (omega (arith, whole, within)) same)))
 
 write_pieces : {X : Type 0} (f : X → List ℕ) (g : List ℕ → X) (width : ℕ) (node : List ℕ) → length node ≡ width * 32
     → ((slot : ℕ) → slot < 32 → f (g (take width (drop (width * slot) node))) ≡ take width (drop (width * slot) node))
@@ -109,7 +109,7 @@ test_pieces : {X : Type 0} (f : X → List ℕ) (p : List ℕ → Bool) (width :
 unfolding slots
 test_pieces f p width xs d whole widths passes =
     each_passes (λ slot. p (take width (drop (width * slot) (flat_map f xs)))) 32 (λ k within.
-      ap p (piece_at f width xs d k widths (omega (arith, whole, within))) ∙ All-get_or (λ x. p (f x) ≡ true) xs k d (omega (arith, whole, within)) passes)
+    ap p (piece_at f width xs d k widths (omega (arith, whole, within))) ∙ All-get_or (λ x. p (f x) ≡ true) xs k d (omega (arith, whole, within)) passes)
 
 cover_pieces : {X : Type 0} (f : X → List ℕ) (u : List ℕ → List ℕ) (v : X → List ℕ) (width : ℕ) (xs : List X) (d : X) → length xs ≡ 32
     → All (λ x. length (f x) ≡ width) xs → All (λ x. u (f x) ≡ v x) xs
@@ -117,7 +117,7 @@ cover_pieces : {X : Type 0} (f : X → List ℕ) (u : List ℕ → List ℕ) (v 
 unfolding slots
 cover_pieces f u v width xs d whole widths same =
     same_pieces (λ slot. u (take width (drop (width * slot) (flat_map f xs)))) (λ slot. v (get_or xs slot d)) 32 (λ k within.
-      ap u (piece_at f width xs d k widths (omega (arith, whole, within))) ∙ All-get_or (λ x. u (f x) ≡ v x) xs k d (omega (arith, whole, within)) same)
+    ap u (piece_at f width xs d k widths (omega (arith, whole, within))) ∙ All-get_or (λ x. u (f x) ≡ v x) xs k d (omega (arith, whole, within)) same)
     ∙ sym (flat_map-map v (λ slot. get_or xs slot d) (range_with_len 0 32))
     ∙ ap (flat_map v) (sym (fill_by_all (λ slot. get_or xs slot d) xs 32 d whole (λ k within. refl)))
 
@@ -261,16 +261,16 @@ pub blocks_spelled : (record_size : ℕ) (node : List ℕ) → length node ≡ 1
 unfolding has_entries slots
 blocks_spelled record_size node whole bytes entries =
     write_pieces block_entry block_at 49 node whole (λ slot within.
-      block_entry-at record_size (take 49 (drop (49 * slot) node)) (part_of 49 slot node whole within) (bytes_of_part (49 * slot) 49 node bytes)
-      (each_passed (λ slot. is_entry 1 record_size (take 49 (drop (49 * slot) node))) 32 slot within entries))
+    block_entry-at record_size (take 49 (drop (49 * slot) node)) (part_of 49 slot node whole within) (bytes_of_part (49 * slot) 49 node bytes)
+    (each_passed (λ slot. is_entry 1 record_size (take 49 (drop (49 * slot) node))) 32 slot within entries))
 
 pub blocks_mac : (record_size : ℕ) (refs : List (Option BlockRef)) → length refs ≡ 32 → All (λ entry. IfSome entry (IsBlockRef record_size)) refs
     → node_mac 1 (block_node refs) ≡ mac_of 1 (flat_map block_under_mac refs)
 unfolding node_mac
 blocks_mac record_size refs whole all =
     ap (mac_of 1) (cover_pieces block_entry (without_address 1) block_under_mac 49 refs None whole
-      (All-weaker _ (λ o. length (block_entry o) ≡ 49) (length-block_entry record_size) refs all)
-      (All-weaker (λ entry. IfSome entry (IsBlockRef record_size)) (λ o. without_address 1 (block_entry o) ≡ block_under_mac o) (λ o is. block_without_address o) refs all))
+    (All-weaker _ (λ o. length (block_entry o) ≡ 49) (length-block_entry record_size) refs all)
+    (All-weaker (λ entry. IfSome entry (IsBlockRef record_size)) (λ o. without_address 1 (block_entry o) ≡ block_under_mac o) (λ o is. block_without_address o) refs all))
 
 pub refs_read : (refs : List (Option NodeRef)) → length refs ≡ 32 → All (λ entry. IfSome entry IsNodeRef) refs → refs_of (ref_node refs) ≡ refs
 refs_read refs whole all =
@@ -310,8 +310,8 @@ spelled : (record_size : ℕ) (node : List ℕ) → length node ≡ 800 → ((i 
 unfolding has_entries slots
 spelled record_size node whole bytes entries =
     write_pieces node_entry node_at 25 node whole (λ slot within.
-      node_entry-at record_size (take 25 (drop (25 * slot) node)) (part_of 25 slot node whole within) (bytes_of_part (25 * slot) 25 node bytes)
-      (each_passed (λ slot. is_entry 2 record_size (take 25 (drop (25 * slot) node))) 32 slot within entries))
+    node_entry-at record_size (take 25 (drop (25 * slot) node)) (part_of 25 slot node whole within) (bytes_of_part (25 * slot) 25 node bytes)
+    (each_passed (λ slot. is_entry 2 record_size (take 25 (drop (25 * slot) node))) 32 slot within entries))
 
 pub refs_spelled : (level record_size : ℕ) (node : List ℕ) → 2 ≤ level → length node ≡ 800 → ((i : ℕ) → slice_index node i < 256)
     → has_entries level record_size node ≡ true → ref_node (refs_of node) ≡ node
@@ -323,6 +323,6 @@ pub refs_mac : (level : ℕ) (refs : List (Option NodeRef)) → 2 ≤ level → 
 refs_mac level refs above whole all =
     macs_alike level (ref_node refs) above
     ∙ ap (mac_of level) (cover_pieces node_entry (without_address 2) (λ o. node_under_mac (option_map (λ r. r.mac) o)) 25 refs None whole
-      (All-weaker _ (λ o. length (node_entry o) ≡ 25) length-node_entry refs all)
-      (All-weaker (λ entry. IfSome entry IsNodeRef) (λ o. without_address 2 (node_entry o) ≡ node_under_mac (option_map (λ r. r.mac) o)) (λ o is. node_without_address o) refs all)
+    (All-weaker _ (λ o. length (node_entry o) ≡ 25) length-node_entry refs all)
+    (All-weaker (λ entry. IfSome entry IsNodeRef) (λ o. without_address 2 (node_entry o) ≡ node_under_mac (option_map (λ r. r.mac) o)) (λ o is. node_without_address o) refs all)
     ∙ sym (flat_map-map node_under_mac (option_map (λ r. r.mac)) refs))

@@ -1,6 +1,6 @@
 -- How the walk goes on from one node, over plain variables.
-use Rattle.std.proofs.Common.{◌≡◌, ℕ, zero, suc, ◌+◌, ◌-◌, ◌*◌, ◌<◌, ◌≤◌, Bool, true, false, ◌&&◌, ◌||◌, ◌==◌, List, length, map, take, drop, refl, sym, ap, subst, ◌∙◌, arith, Option, Some, None, Result, Ok, Err, if◌then◌else◌}
-use Rattle.std.specs.Prelude.{IfSome, IfErr, ⊤}
+use Rattle.std.proofs.Common.{◌≡◌, ℕ, zero, suc, ◌+◌, ◌-◌, ◌*◌, ◌≤◌, Bool, true, false, ◌||◌, ◌==◌, List, length, map, take, drop, refl, sym, ap, subst, ◌∙◌, arith, Option, Some, None, Result, Ok, Err, if◌then◌else◌}
+use Rattle.std.specs.Prelude.{IfSome, IfErr}
 use Rattle.std.specs.Option.{option_map_or}
 use Rattle.std.proofs.lemmas.Bool.{ne_eqb}
 use Rattle.std.proofs.lemmas.Option.{IfSome_then}
@@ -11,8 +11,8 @@ use Rattle.indirect_macs.specs.declared.refs.NodeRef.{NodeRef}
 use Rattle.indirect_macs.specs.declared.refs.MacError.{MacError}
 use Rattle.indirect_macs.specs.declared.refs.MacError.TheVariants.{MacFailed, ShelfFault, Full, NoMemory}
 use Rattle.indirect_macs.specs.Nodes.{entry_at}
-use Rattle.indirect_macs.specs.Walk.{names_node, reads_of, next_block, next_node, goes_on, walk, reads, fails_at, passed, tested}
-use Rattle.indirect_macs.specs.Calls.{answered, is_fault, fails_within, Gave, Answers, IsOver}
+use Rattle.indirect_macs.specs.Walk.{names_node, reads_of, next_block, next_node, goes_on, walk, reads, fails_at}
+use Rattle.indirect_macs.specs.Calls.{answered, fails_within, Gave, Answers, IsOver}
 use Rattle.indirect_macs.proofs.Reading.{both, passed_unnamed}
 
 -- ---- the entry that leads on
@@ -67,7 +67,7 @@ idle_stays zero s none = refl
 idle_stays (suc calls) s none =
     ap (after_calls calls) (idle_same s none) ∙ idle_stays calls s none
 
-held_kept : (calls : ℕ) (s : ShelfState) → (after_calls calls s).held ≡ s.held
+pub held_kept : (calls : ℕ) (s : ShelfState) → (after_calls calls s).held ≡ s.held
 held_kept zero s = refl
 held_kept (suc calls) s = held_kept calls (counted s)
 
@@ -137,8 +137,8 @@ pub walk_stops : (record_size index below : ℕ) (node : NodeRef) (stop : MacErr
 unfolding walk reads
 walk_stops record_size index below node stop s m first =
     IfSome_then s.held first (λ held gave.
-      stops (names_node (map length held) (below + 2) node.addr) (next_node held record_size index (below + 2) node) stop
-      (λ next. walk held record_size index below next) (λ next. reads held record_size index below next) s m gave)
+    stops (names_node (map length held) (below + 2) node.addr) (next_node held record_size index (below + 2) node) stop
+    (λ next. walk held record_size index below next) (λ next. reads held record_size index below next) s m gave)
 
 -- ---- the walk where its node passes
 
@@ -179,9 +179,9 @@ walk_goes_on record_size index below node child result calls s m t after first r
     let kept : m.held ≡ s.held = ap (λ (state : ShelfState). state.held) after ∙ held_kept calls s in
     let later = subst (λ (told : Option (List (List ℕ))). IfSome told (λ held. Gave (reads held record_size index below child) (walk held record_size index below child) result m t)) kept rest in
     both s.held first later (λ held gave more.
-      goes (names_node (map length held) (below + 2) node.addr) (next_node held record_size index (below + 2) node) (fails_at (below + 2) index) child
-      (λ next. walk held record_size index below next) (λ next. reads held record_size index below next) result s m t
-      (next_unnamed held record_size index (below + 2) node) gave more)
+    goes (names_node (map length held) (below + 2) node.addr) (next_node held record_size index (below + 2) node) (fails_at (below + 2) index) child
+    (λ next. walk held record_size index below next) (λ next. reads held record_size index below next) result s m t
+    (next_unnamed held record_size index (below + 2) node) gave more)
 
 -- ---- at a hole
 
@@ -193,6 +193,7 @@ walk_hole record_size index below s = at_each s.held (λ held. by_level held bel
     by_level : (held : List (List ℕ)) (below : ℕ) → Gave (reads held record_size index below None) (walk held record_size index below None) (Ok None) s s
     by_level held zero = record { given = refl; after = refl }
     by_level held (suc below) = record { given = refl; after = refl }
+
     at_each : {X : Type 0} (o : Option X) {P : X → Type 0} → ((x : X) → P x) → IfSome o P
     at_each None p = tt
     at_each (Some x) p = p x

@@ -63,7 +63,7 @@ unfoldable pub is_entry : (level record_size : ℕ) → List ℕ → Bool
 is_entry level record_size entry =
     list_all (λ byte. byte == 0) entry
     || (slice_index entry 0 == 1
-      && (if level == 1 then is_size record_size (little_endian_value (take 4 (drop 1 entry))) else true))
+    && (if level == 1 then is_size record_size (little_endian_value (take 4 (drop 1 entry))) else true))
 
 -- what a node's MAC covers of the bytes of an entry
 abbrev pub without_address : (level : ℕ) → List ℕ → List ℕ

@@ -1,5 +1,5 @@
 -- The places over a block, from the top of its tree down: what stands in the nodes as a shelf holds them, whether or not they pass their tests.
-use Rattle.std.specs.Prelude.{ℕ, zero, suc, ◌+◌, List, Option, Some, None}
+use Rattle.std.specs.Prelude.{ℕ, zero, suc, ◌+◌, List, Option, None}
 use Rattle.std.specs.List.{slice_get}
 use Rattle.std.specs.Option.{option_map, option_and_then}
 use Rattle.indirect_macs.specs.declared.refs.BlockRef.{BlockRef}

@@ -22,8 +22,7 @@ pub fn block_nodes_have_one_spelling()
     ensures mac { (record_size : ℕ) (refs : List (Option BlockRef)) → length refs ≡ 32
         → All (λ entry. IfSome entry (IsBlockRef record_size)) refs
         → node_mac 1 (block_node refs) ≡ mac_of 1 (flat_map block_under_mac refs) }
-{
-}
+{}
 
 /// A node above level 1 has one spelling, as one of level 1. Nodes of all these levels are stored
 /// alike, and only the MAC tells the level.
@@ -38,8 +37,7 @@ pub fn ref_nodes_have_one_spelling()
     ensures mac { (level : ℕ) (refs : List (Option NodeRef)) → 2 ≤ level → length refs ≡ 32
         → All (λ entry. IfSome entry IsNodeRef) refs
         → node_mac level (ref_node refs) ≡ mac_of level (flat_map node_under_mac (map (option_map (λ r. r.mac)) refs)) }
-{
-}
+{}
 
 /// The walk to a block is the first place from the top, of those over the block, that fails its test,
 /// and where all of them pass it is the reference that the lowest of them has.
@@ -47,11 +45,10 @@ pub fn walks_stop_at_the_first_place_that_fails()
     ensures fails { (held : List (List ℕ)) (record_size index below : ℕ) (top : Option NodeRef) (depth : ℕ) (place : Place)
         → place_at held index below top depth ≡ Some place → passed held record_size place.level place.node ≡ None
         → ((above : ℕ) (other : Place) → above < depth → place_at held index below top above ≡ Some other
-          → IsSome (passed held record_size other.level other.node))
+        → IsSome (passed held record_size other.level other.node))
         → walk held record_size index below top ≡ Err (fails_at place.level index) }
     ensures passes { (held : List (List ℕ)) (record_size index below : ℕ) (top : Option NodeRef)
         → ((depth : ℕ) (place : Place) → place_at held index below top depth ≡ Some place
-          → IsSome (passed held record_size place.level place.node))
+        → IsSome (passed held record_size place.level place.node))
         → walk held record_size index below top ≡ Ok (block_in held index (place_at held index below top below)) }
-{
-}
+{}

@@ -85,21 +85,40 @@ fn a_block_is_found_and_a_hole_is_none(rt: HostRuntime) -> Result<(), Fail> {
 }
 
 #[test]
-fn the_first_place_from_the_top_is_named(rt: HostRuntime) -> Result<(), Fail> {
+fn the_first_place_that_fails_is_named(rt: HostRuntime) -> Result<(), Fail> {
     let mut shelf = MemShelf::fresh(rt.alloc())?;
     assert_eq!(rt; shelf.put(&leaf()), Ok(0));
     assert_eq!(rt; shelf.put(&top()), Ok(1));
     assert_eq!(rt; shelf.alter(0, 80, 1), Ok(()));
-    let leaf_failed = MacError::MacFailed { level: 1, index: 1 };
-    assert_eq!(rt; lookup(&TREE, &mut shelf, 33, 512), Err(leaf_failed));
+    let failed = MacError::MacFailed { level: 1, index: 1 };
+    assert_eq!(rt; lookup(&TREE, &mut shelf, 33, 512), Err(failed));
     assert_eq!(rt; lookup(&TREE, &mut shelf, 0, 512), Ok(None));
-    // The address of the leaf isn't under the MAC: it names no block, and isn't read.
+    let other = ObjTree {
+        levels: 2,
+        top: Some(NodeRef {
+            addr: 1,
+            mac: MAC_1,
+        }),
+    };
+    let top_failed = MacError::MacFailed { level: 2, index: 0 };
+    assert_eq!(rt; lookup(&other, &mut shelf, 33, 512), Err(top_failed));
+    Ok(())
+}
+
+// The leaf's address isn't under the top's MAC. Where it names no block, the leaf isn't read, and an
+// armed failure stays for the next call.
+#[test]
+fn a_node_that_is_not_there_is_not_read(rt: HostRuntime) -> Result<(), Fail> {
+    let mut shelf = MemShelf::fresh(rt.alloc())?;
+    assert_eq!(rt; shelf.put(&leaf()), Ok(0));
+    assert_eq!(rt; shelf.put(&top()), Ok(1));
     assert_eq!(rt; shelf.alter(1, 26, 4), Ok(()));
     shelf.fail_after(1);
-    assert_eq!(rt; lookup(&TREE, &mut shelf, 33, 512), Err(leaf_failed));
-    assert_eq!(rt; lookup(&TREE, &mut shelf, 33, 512), Err(MacError::ShelfFault));
-    assert_eq!(rt; shelf.alter(1, 799, 1), Ok(()));
-    let top_failed = MacError::MacFailed { level: 2, index: 0 };
-    assert_eq!(rt; lookup(&TREE, &mut shelf, 33, 512), Err(top_failed));
+    let failed = MacError::MacFailed { level: 1, index: 1 };
+    assert_eq!(rt; lookup(&TREE, &mut shelf, 33, 512), Err(failed));
+    assert_eq!(rt;
+        lookup(&TREE, &mut shelf, 33, 512),
+        Err(MacError::ShelfFault)
+    );
     Ok(())
 }

@@ -1,8 +1,7 @@
-use Rattle.std.proofs.Common.{◌≡◌, ℕ, List, [], ◌∷◌, ◌++◌, refl, ap, ◌∙◌, subst, append_assoc}
+use Rattle.std.proofs.Common.{◌≡◌, ℕ, List, [], ◌∷◌, ◌++◌, ◌∙◌, subst, append_assoc}
 use Rattle.std.proofs.lemmas.List.{append-nil}
 use Rattle.sha2.specs.Hashers.{Holds512}
 use Rattle.byte_fields.specs.LittleEndian.{little_endian_bytes}
-use Rattle.indirect_macs.specs.Entries.{block_under_mac}
 use Rattle.indirect_macs.proofs.entry.update_block.Goals as goal
 
 pieces : (covered size salt iv mac : List ℕ) → ((((covered ++ 1 ∷ []) ++ size) ++ salt) ++ iv) ++ mac ≡ covered ++ ((((1 ∷ size) ++ salt) ++ iv) ++ mac)

@@ -1,4 +1,4 @@
-use Rattle.std.proofs.Common.{◌≡◌, ℕ, List, [], ◌∷◌, ◌++◌, subst, append_assoc}
+use Rattle.std.proofs.Common.{ℕ, List, [], ◌∷◌, subst, append_assoc}
 use Rattle.sha2.specs.Hashers.{Holds512}
 use Rattle.indirect_macs.proofs.entry.update_node.Goals as goal
 

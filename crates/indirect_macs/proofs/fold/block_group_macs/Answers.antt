@@ -1,4 +1,4 @@
-use Rattle.std.proofs.Common.{◌≡◌, ◌≤◌, ℕ, List, Option, ap, sym, ◌∙◌, length, arith}
+use Rattle.std.proofs.Common.{◌≡◌, ℕ, List, Option, ap, sym, ◌∙◌, length, arith}
 use Rattle.indirect_macs.specs.Entries.{block_under_mac}
 use Rattle.indirect_macs.specs.Fold.{group_mac, group_macs, group_at, group_count}
 use Rattle.indirect_macs.proofs.Groups.{groups_more}

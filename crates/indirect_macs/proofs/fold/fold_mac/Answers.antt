@@ -1,4 +1,4 @@
-use Rattle.std.proofs.Common.{◌≡◌, ◌≤◌, ◌<◌, ◌+◌, ◌^◌, ℕ, None, ap, sym, ◌∙◌, arith, length, vec_len}
+use Rattle.std.proofs.Common.{◌≡◌, ◌≤◌, ◌+◌, None, ap, sym, ◌∙◌, arith, length, vec_len}
 use Rattle.indirect_macs.specs.Entries.{block_under_mac, node_under_mac}
 use Rattle.indirect_macs.specs.Fold.{fold_mac, group_macs, group_count}
 use Rattle.indirect_macs.proofs.Groups.{IsLeft-first, IsLeft-more, length-group_macs, folded_last, fewer_groups, first_any}

@@ -1,5 +1,4 @@
-use Rattle.std.proofs.Common.{◌≡◌, ℕ, ◌+◌, ◌-◌, ◌*◌, ◌<◌, ◌^◌, length, arith}
-use Rattle.std.specs.Prelude.{min}
+use Rattle.std.proofs.Common.{◌-◌, arith}
 use Rattle.indirect_macs.proofs.Groups.{group_cut}
 use Rattle.indirect_macs.proofs.fold.group_at.Goals as goal
 

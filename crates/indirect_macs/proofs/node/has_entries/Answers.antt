@@ -1,4 +1,4 @@
-use Rattle.std.proofs.Common.{◌≡◌, ℕ, ◌+◌, ◌-◌, ◌*◌, true, false, sym, ◌∙◌, arith}
+use Rattle.std.proofs.Common.{◌≡◌, ◌+◌, ◌-◌, ◌*◌, true, false, sym, ◌∙◌, arith}
 use Rattle.indirect_macs.specs.Entries.{entry_len, is_entry}
 use Rattle.indirect_macs.specs.Nodes.{slots, has_entries, entry_at}
 use Rattle.indirect_macs.proofs.Slots.{all_more, all_fails}

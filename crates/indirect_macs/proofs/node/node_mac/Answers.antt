@@ -1,5 +1,4 @@
-use Rattle.std.proofs.Common.{◌≡◌, ℕ, ◌+◌, ◌-◌, ◌*◌, List, ◌∷◌, ◌++◌, take, drop, ap, sym, ◌∙◌, arith}
-use Rattle.sha2.specs.Hashers.{Holds512}
+use Rattle.std.proofs.Common.{◌≡◌, ◌+◌, ◌-◌, ◌*◌, take, ap, ◌∙◌, arith}
 use Rattle.indirect_macs.specs.Entries.{entry_len, without_address}
 use Rattle.indirect_macs.specs.Nodes.{slots, node_mac, mac_of, entry_at}
 use Rattle.indirect_macs.proofs.Slots.{flat_more}

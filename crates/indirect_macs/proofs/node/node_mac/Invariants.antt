@@ -1,4 +1,4 @@
-use Rattle.std.proofs.Common.{◌≡◌, ◌∷◌}
+use Rattle.std.proofs.Common.{◌∷◌}
 use Rattle.std.specs.List.{flat_map, range_with_len}
 use Rattle.sha2.specs.Hashers.{Holds512}
 use Rattle.indirect_macs.specs.Entries.{without_address}

@@ -1,4 +1,4 @@
-use Rattle.std.proofs.Common.{◌≡◌, ◌-◌, ◌≤◌, arith}
+use Rattle.std.proofs.Common.{◌-◌, ◌≤◌, arith}
 use Rattle.indirect_macs.proofs.Walking.{walk_hole, at_level_one, stops_at, goes_on_at, answers_go_on}
 use Rattle.indirect_macs.proofs.walk.+walk.Goals as goal
 

@@ -15,12 +15,12 @@ returns-in-Ok-clause-told g c =
     ∙ ap block_at (entry_below _ _ c.read_node.new.out (ap (λ (slot : ℕ). 49 * slot) c.slot_of-at.ensures.value)) in
     rw entry
     (both (g.B.Shelf.told c.args.shelf.now).held c.in-Ok.ensures.told c.in-Ok.ensures.bytes (λ held gave is.
-      gave_ok (λ bytes. block_at (entry_at 1 bytes (slot_of 1 c.args.index))) _
-      (passed held c.args.block 1 c.args.node.now) (fails_at 1 c.args.index) c.read_node.new.out _ _ gave is))
+    gave_ok (λ bytes. block_at (entry_at 1 bytes (slot_of 1 c.args.index))) _
+    (passed held c.args.block 1 c.args.node.now) (fails_at 1 c.args.index) c.read_node.new.out _ _ gave is))
 
 pub returns-in-Err-clause-told : goal.returns-in-Err-clause-told
 unfolding next_block
 returns-in-Err-clause-told g c =
     IfSome_then (g.B.Shelf.told c.args.shelf.now).held c.in-Err.ensures.told (λ held gave.
-      gave_err (λ bytes. block_at (entry_at 1 bytes (slot_of 1 c.args.index))) _
-      (passed held c.args.block 1 c.args.node.now) (fails_at 1 c.args.index) c.in-Err.stop _ _ gave)
+    gave_err (λ bytes. block_at (entry_at 1 bytes (slot_of 1 c.args.index))) _
+    (passed held c.args.block 1 c.args.node.now) (fails_at 1 c.args.index) c.in-Err.stop _ _ gave)
