@@ -10,6 +10,8 @@ use gcm_seal::{BadTag, MAX_TEXT_LEN, seal, unseal};
 /// place for them.
 pub const MAX_AAD_LEN: usize = 65279;
 
+const _: () = prove!(MAX_AAD_LEN + 1 == (1 << 16) - (1 << 8));
+
 /// Seals `text` in place in the mode of `suite`, and returns its tag, which covers `aad` too.
 ///
 /// `key` has 16, 24 or 32 bytes, for AES-128, AES-192 or AES-256, whichever of them the suite names.
