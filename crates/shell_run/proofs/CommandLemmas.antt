@@ -1,5 +1,8 @@
 -- A command with what was taken for it is carried out as it is defined.
-use Rattle.std.proofs.Common.{◌≡◌, ℕ, ◌++◌, List, [], Option, Some, None, Result, Ok, Err, IfSome, OnOk, false, refl, ap, sym, ◌∙◌, subst}
+use Rattle.std.proofs.Common.{◌≡◌, ◌≢◌, ℕ, ◌++◌, List, [], Option, Some, None, Result, Ok, Err, IfSome, OnOk, refl, ap, sym, ◌∙◌, subst}
+use Rattle.std.specs.declared.alloc.AllocError.{AllocError}
+use Rattle.std.specs.Option.{option_and_then, option_map}
+use Rattle.std.proofs.lemmas.List.{append-nil}
 use Rattle.dataset_tree.specs.declared.refusal.Refusal.{Refusal}
 use Rattle.dataset_tree.specs.declared.refusal.Stop.{Stop}
 use Rattle.dataset_tree.specs.declared.refusal.Stop.TheVariants as stops
@@ -7,187 +10,304 @@ use Rattle.dataset_tree.specs.Refusal.{Gives}
 use Rattle.encryption_roots.specs.declared.kit.LineKit.{LineKit}
 use Rattle.encryption_roots.specs.declared.command.KeyCmd.{KeyCmd}
 use Rattle.key_machine.specs.Plain.{Plain}
-use Rattle.key_machine.specs.Needs.{wanted}
-use Rattle.key_machine.specs.Refusals.{refusal_of}
+use Rattle.key_machine.specs.Reply.{Reply, Done, Made, Text, Refused, Reaped, Skipped}
+use Rattle.key_machine.specs.Step.{refusal_of, wanted}
+use Rattle.key_machine.specs.Told.{Wanted}
 use Rattle.key_store.specs.declared.needs.Needs.{Needs}
 use Rattle.key_store.specs.Calls.{stepped, state_after, needs_of, needed, needed_unless, AnswersMade, AnswersDone}
-use Rattle.key_machine.specs.Step.{Reply, Done, Made, Text, Refused, Reaped, Skipped}
-use Rattle.dataset_tree.specs.SetName.{named}
-use Rattle.encryption_roots.specs.declared.command.KeyCmd.TheVariants as commands
 use Rattle.shell_lines.specs.declared.line.Line.{Line}
-use Rattle.shell_lines.specs.declared.line.Line.TheVariants.{Silent, Create, LoadKey, UnloadKey, Get, List as ListSets}
-use Rattle.shell_run.specs.declared.found.FoundEntry.{FoundEntry}
-use Rattle.shell_run.specs.Failing.{Failing, failing, failing_since, failed_takings}
-use Rattle.shell_run.specs.Answers.{Commands, Shows, shown_output, listed_for, listed_after}
+use Rattle.shell_lines.specs.declared.line.LineStop.{LineStop}
+use Rattle.shell_lines.specs.declared.line.LineStop.TheVariants as line_stops
+use Rattle.shell_lines.specs.Grammar.{Spells}
 use Rattle.shell_run.specs.declared.command.Shown.{Shown}
-use Rattle.shell_run.specs.Takings.{Executes, shown_of, wants_of}
-use Rattle.shell_run.specs.Transcript.{World, told_world, Commanded, taking, commanded, commanded_if, command_named, reply_output, unless_refused, kit_of, entropy_left, answer_of}
-use Rattle.shell_run.proofs.TakingLemmas.{since_none, quiet_kit}
-use Rattle.std.proofs.lemmas.List.{append-nil}
+use Rattle.shell_run.specs.declared.command.Shown.TheVariants as shows
+use Rattle.shell_run.specs.declared.found.FoundEntry.{FoundEntry}
+use Rattle.shell_run.specs.Answers.{Acts, Agrees, AnswersTo, CarriesOut, Commands, Executes, GivesKit, HasAnswer, HasTurn, IsDone, Replies, Shows, TakesKit, WhereTold, answer_takings, shown_output, spot_of, wants_of}
+use Rattle.shell_run.specs.Outer.{Outer, Takes, left_after}
+use Rattle.shell_run.specs.Ran.{IsFront}
+use Rattle.shell_run.specs.Takings.{Taking, fills_of}
+use Rattle.shell_run.specs.Texts.{error_line}
+use Rattle.shell_run.specs.Transcript.{World, world_of, told_world, Spot, takings_of, kit_of, Commanded, taking, refused_at_once, unless_refused, commanded, commanded_if, reply_output, Turn, turn_of, Answer, Goes, Ends, answer_of, answer_if}
+use Rattle.shell_run.proofs.KitLemmas.{told_at}
+use Rattle.shell_run.proofs.TakingLemmas.{takes_none}
 
-accepted_by : (p : Plain) (command : KeyCmd) (needs : Needs) (refusal : Option Refusal) → needed_unless p command refusal ≡ Ok needs → (refusal ≡ None) × (needs_of (wanted p command) ≡ needs)
-accepted_by p command needs None known = (refl, cc)
+-- ---- worlds that are told
+
+told_each_of : (p : Plain) (f : Option (List (List ℕ × List ℕ))) (e : Option (List ℕ)) (P : World → Type 0) → ((files : List (List ℕ × List ℕ)) (left : List ℕ) → f ≡ Some files → e ≡ Some left → P (world_of p files left))
+    → IfSome (option_and_then (λ (files : List (List ℕ × List ℕ)). option_map (world_of p files) e) f) P
+told_each_of p None e P holds = tt
+told_each_of p (Some files) None P holds = tt
+told_each_of p (Some files) (Some left) P holds = holds files left refl refl
+
+pub told_each : (p : Plain) (outer : Outer) (P : World → Type 0) → ((files : List (List ℕ × List ℕ)) (left : List ℕ) → outer.files ≡ Some files → outer.entropy ≡ Some left → P (world_of p files left)) → IfSome (told_world p outer) P
+told_each p outer P holds = told_each_of p outer.files outer.entropy P holds
+
+told_of : (p : Plain) (outer : Outer) (files : List (List ℕ × List ℕ)) (left : List ℕ) → outer.files ≡ Some files → outer.entropy ≡ Some left → told_world p outer ≡ Some (world_of p files left)
+told_of p outer files left f e =
+    ap (λ (o : Option (List (List ℕ × List ℕ))). option_and_then (λ (files : List (List ℕ × List ℕ)). option_map (world_of p files) outer.entropy) o) f ∙ ap (λ (o : Option (List ℕ)). option_map (world_of p files) o) e
+
+-- the world that a line leaves, after what it took
+pub told_after : (n : ℕ) (p : Plain) (a d : Outer) (files : List (List ℕ × List ℕ)) (left : List ℕ) (made : List Taking) → Takes (λ line. line ≡ n) made a d → a.files ≡ Some files → a.entropy ≡ Some left
+    → told_world p d ≡ Some (world_of p files (left_after (fills_of made) left))
+told_after n p a d files left made takes f e =
+    told_of p d files (left_after (fills_of made) left) (takes.files ∙ f) (told_at a.entropy left (λ l. d.entropy ≡ Some (left_after (fills_of made) l)) e takes.entropy)
+
+keys_of : (p : Plain) (f : Option (List (List ℕ × List ℕ))) (e : Option (List ℕ)) (w : World) → option_and_then (λ (files : List (List ℕ × List ℕ)). option_map (world_of p files) e) f ≡ Some w → w.present.keys ≡ p
+keys_of p None e w told = absurd (cc)
+keys_of p (Some files) None w told = absurd (cc)
+keys_of p (Some files) (Some left) w told = let same : world_of p files left ≡ w = cc in sym (ap (λ (v : World). v.present.keys) same)
+
+keys_told : (p : Plain) (outer : Outer) (w : World) → told_world p outer ≡ Some w → w.present.keys ≡ p
+keys_told p outer w told = keys_of p outer.files outer.entropy w told
+
+pub acts_on : (n : ℕ) (a b : Outer) (P Q : List Taking → Type 0) → ((made : List Taking) → P made → Q made) → Acts n a b P → Acts n a b Q
+acts_on n a b P Q follows acts = record { made = acts.made; takes = acts.takes; said = follows acts.made acts.said }
+
+pub acts_not : (n : ℕ) (a : Outer) (Q : List Taking → Type 0) → Q [] → Acts n a a Q
+acts_not n a Q holds = record { made = []; takes = takes_none (λ line. line ≡ n) a; said = holds }
+
+pub front_all : {A : Type 0} (made whole : List A) → made ≡ whole → IsFront made whole
+front_all made whole same = ([], sym same ∙ sym (append-nil made))
+
+pub front_nil : {A : Type 0} (whole : List A) → IsFront [] whole
+front_nil whole = (whole, refl)
+
+-- ---- a command
+
+accepted_by : (p : Plain) (command : KeyCmd) (needs : Needs) (refusal : Option Refusal) → needed_unless p command refusal ≡ Ok needs → (refusal ≡ None) × (wanted p command ≡ wants_of needs)
+accepted_by p command needs None known = (refl, let same : needs_of (wanted p command) ≡ needs = cc in ap wants_of same)
 accepted_by p command needs (Some why) known = absurd (cc)
 
-finish : (result : Result Shown Stop) (done : Commanded) (now : Option World) (old new state : Plain) (files : List (List ℕ × List ℕ)) (entropy : List ℕ) (failed : List FoundEntry) → Gives result (shown_of done.reply)
-    → new ≡ state_after result old state → now ≡ Some record { keys = new; files = files; entropy = entropy; failed = failed } → done.world ≡ record { keys = state; files = files; entropy = entropy; failed = failed }
-    → Executes result done now
-finish (Ok shown) done now old new state files entropy failed gives after told world =
-    (gives, told ∙ ap (λ p. let w : World = record { keys = p; files = files; entropy = entropy; failed = failed } in Some w) after ∙ ap (λ w. Some w) (sym world))
-finish (Err (stops.Refused why)) done now old new state files entropy failed gives after told world =
-    (gives, told ∙ ap (λ p. let w : World = record { keys = p; files = files; entropy = entropy; failed = failed } in Some w) after ∙ ap (λ w. Some w) (sym world))
-finish (Err stops.NoMemory) done now old new state files entropy failed gives after told world = tt
+refused_by : (p : Plain) (command : KeyCmd) (why : Refusal) (refusal : Option Refusal) → Gives (let stopped : Result Needs Stop = Err (stops.Refused why) in stopped) (needed_unless p command refusal) → refusal ≡ Some why
+refused_by p command why None gives = absurd (cc)
+refused_by p command why (Some other) gives = cc
 
-pub executed : (n : ℕ) (fails : Failing) (p new : Plain) (command : KeyCmd) (needs : Needs) (kit : LineKit) (f0 f1 : Option (List (List ℕ × List ℕ))) (e0 e1 : Option (List ℕ)) (a b : List FoundEntry) (result : Result Shown Stop)
-    → needed p command ≡ Ok needs
-    → IfSome f0 (λ told. IfSome e0 (λ left. kit ≡ kit_of fails told left (wants_of needs)))
-    → f1 ≡ f0 → IfSome e0 (λ left. e1 ≡ Some (entropy_left fails.seed left needs.seed))
-    → IfSome f0 (λ told. IfSome e0 (λ left. b ≡ a ++ failed_takings n (kit_of fails told left (wants_of needs))))
-    → Gives result (shown_of (stepped p command kit).reply) → new ≡ state_after result p (stepped p command kit).state
-    → IfSome (told_world p f0 e0 a) (λ w. Executes result (commanded n fails w command) (told_world new f1 e1 b))
-executed n fails p new command needs kit None f1 e0 e1 a b result known kit_is files entropy listed gives after = tt
-executed n fails p new command needs kit (Some told) f1 None e1 a b result known kit_is files entropy listed gives after = tt
-executed n fails p new command needs kit (Some told) f1 (Some left) e1 a b result known kit_is files entropy listed gives after =
-    let w : World = record { keys = p; files = told; entropy = left; failed = a } in
-    let both : (refusal_of p command ≡ None) × (needs_of (wanted p command) ≡ needs) = accepted_by p command needs (refusal_of p command) known in
-    let kit_by : kit ≡ kit_of fails told left (wanted p command) = kit_is ∙ ap (λ (n : Needs). kit_of fails told left (wants_of n)) (sym both.1) in
-    let gives_by : Gives result (shown_of (taking n fails w command).reply) = subst (λ (k : LineKit). Gives result (shown_of (stepped p command k).reply)) kit_by gives in
-    let after_by : new ≡ state_after result p (taking n fails w command).world.keys = subst (λ (k : LineKit). new ≡ state_after result p (stepped p command k).state) kit_by after in
-    let rest : List ℕ = entropy_left fails.seed left (wanted p command).seed in
-    let entropy_by : e1 ≡ Some rest = entropy ∙ ap (λ (n : Needs). Some (entropy_left fails.seed left n.seed)) (sym both.1) in
-    let failed : List FoundEntry = a ++ failed_takings n (kit_of fails told left (wanted p command)) in
-    let failed_by : b ≡ failed = listed ∙ ap (λ (m : Needs). a ++ failed_takings n (kit_of fails told left (wants_of m))) (sym both.1) in
-    let now : told_world new f1 e1 b ≡ Some record { keys = new; files = told; entropy = rest; failed = failed } =
-    ap (λ f. told_world new f e1 b) files ∙ ap (λ e. told_world new (Some told) e b) entropy_by ∙ ap (λ xs. told_world new (Some told) (Some rest) xs) failed_by in
-    let done : commanded n fails w command ≡ taking n fails w command = ap (unless_refused n fails w command) both.0 in
-    subst (λ (d : Commanded). Executes result d (told_world new f1 e1 b)) (sym done)
-    (finish result (taking n fails w command) (told_world new f1 e1 b) p new (taking n fails w command).world.keys told rest failed gives_by after_by now refl)
+-- a command that the state refuses, or for which memory was wanting to see that
+pub executed_at_once : (n : ℕ) (p : Plain) (command : KeyCmd) (outer : Outer) (stop : Stop) → Gives (let stopped : Result Needs Stop = Err stop in stopped) (needed p command)
+    → Acts n outer outer (λ made. WhereTold (told_world p outer) made (λ entries w. Executes (Err stop) (commanded (spot_of n entries) w command) (told_world p outer) made))
+executed_at_once n p command outer (stops.Refused why) gives =
+    acts_not n outer (λ made. WhereTold (told_world p outer) made (λ entries w. Executes (Err (stops.Refused why)) (commanded (spot_of n entries) w command) (told_world p outer) made))
+    (λ entries agrees. told_each p outer (λ w. Executes (Err (stops.Refused why)) (commanded (spot_of n entries) w command) (told_world p outer) []) (λ files left f e.
+    let w : World = world_of p files left in
+    let done : commanded (spot_of n entries) w command ≡ refused_at_once w why = ap (unless_refused (spot_of n entries) w command) (refused_by p command why (refusal_of p command) gives) in
+    subst (λ (d : Commanded). Executes (Err (stops.Refused why)) d (told_world p outer) []) (sym done) (refl, told_of p outer files left f e, refl)))
+executed_at_once n p command outer stops.NoMemory gives =
+    acts_not n outer (λ made. WhereTold (told_world p outer) made (λ entries w. Executes (Err stops.NoMemory) (commanded (spot_of n entries) w command) (told_world p outer) made))
+    (λ entries agrees. told_each p outer (λ w. Executes (Err stops.NoMemory) (commanded (spot_of n entries) w command) (told_world p outer) []) (λ files left f e. front_nil _))
 
--- what is listed of a command
+finish : (result : Result Shown Stop) (done : Commanded) (now : Option World) (old new state : Plain) (files : List (List ℕ × List ℕ)) (left : List ℕ) (made : List Taking) → Replies result done.reply → made ≡ done.takings
+    → new ≡ state_after result old state → now ≡ Some (world_of new files left) → done.world ≡ world_of state files left → Executes result done now made
+finish (Ok shown) done now old new state files left made replies took after told world =
+    (replies, told ∙ ap (λ p. Some (world_of p files left)) after ∙ ap (λ w. Some w) (sym world), took)
+finish (Err (stops.Refused why)) done now old new state files left made replies took after told world =
+    (replies, told ∙ ap (λ p. Some (world_of p files left)) after ∙ ap (λ w. Some w) (sym world), took)
+finish (Err stops.NoMemory) done now old new state files left made replies took after told world = front_all made done.takings took
 
-pub listed_taking : (n : ℕ) (fails : Failing) (p : Plain) (command : KeyCmd) (needs : Needs) (f0 : Option (List (List ℕ × List ℕ))) (e0 : Option (List ℕ)) (a b : List FoundEntry) → needed p command ≡ Ok needs
-    → IfSome f0 (λ told. IfSome e0 (λ left. b ≡ a ++ failed_takings n (kit_of fails told left (wants_of needs)))) → IfSome (told_world p f0 e0 a) (λ w. b ≡ (commanded n fails w command).world.failed)
-listed_taking n fails p command needs None e0 a b known listed = tt
-listed_taking n fails p command needs (Some told) None a b known listed = tt
-listed_taking n fails p command needs (Some told) (Some left) a b known listed =
-    let w : World = record { keys = p; files = told; entropy = left; failed = a } in
-    let both : (refusal_of p command ≡ None) × (needs_of (wanted p command) ≡ needs) = accepted_by p command needs (refusal_of p command) known in
-    listed ∙ ap (λ (m : Needs). a ++ failed_takings n (kit_of fails told left (wants_of m))) (sym both.1) ∙ sym (ap (λ (d : Commanded). d.world.failed) (ap (unless_refused n fails w command) both.0))
+-- where the world is told, so are files and entropy
+kit_at : (n : ℕ) (wants : Wanted) (entries : List FoundEntry) (a : Outer) (made : List Taking) (result : Result LineKit AllocError) (files : List (List ℕ × List ℕ)) (left : List ℕ) → a.files ≡ Some files → a.entropy ≡ Some left
+    → TakesKit result n wants entries a made → GivesKit result (spot_of n entries) files left wants made
+kit_at n wants entries a made result files left f e takes =
+    told_at a.entropy left (λ l. GivesKit result (spot_of n entries) files l wants made) e
+    (told_at a.files files (λ x. IfSome a.entropy (λ l. GivesKit result (spot_of n entries) x l wants made)) f takes)
 
--- without a failed taking nothing is listed
+pub executed : (n : ℕ) (p new : Plain) (command : KeyCmd) (needs : Needs) (kit : LineKit) (a d : Outer) (result : Result Shown Stop) → needed p command ≡ Ok needs
+    → Acts n a d (λ made. (entries : List FoundEntry) → Agrees entries made → TakesKit (Ok kit) n (wants_of needs) entries a made)
+    → Replies result (stepped p command kit).reply → new ≡ state_after result p (stepped p command kit).state
+    → Acts n a d (λ made. WhereTold (told_world p a) made (λ entries w. Executes result (commanded (spot_of n entries) w command) (told_world new d) made))
+executed n p new command needs kit a d result known acts replies after = record {
+  made = acts.made;
+  takes = acts.takes;
+  said = λ entries agrees. told_each p a (λ w. Executes result (commanded (spot_of n entries) w command) (told_world new d) acts.made) (λ files left f e.
+      let w : World = world_of p files left in
+      let spot : Spot = spot_of n entries in
+      let both = accepted_by p command needs (refusal_of p command) known in
+      let gives : GivesKit (Ok kit) spot files left (wanted p command) acts.made =
+      subst (λ (wants : Wanted). GivesKit (Ok kit) spot files left wants acts.made) (sym both.1) (kit_at n (wants_of needs) entries a acts.made (Ok kit) files left f e (acts.said entries agrees)) in
+      let done : commanded spot w command ≡ taking spot w command = ap (unless_refused spot w command) both.0 in
+      let replies_by : Replies result (taking spot w command).reply = subst (λ (k : LineKit). Replies result (stepped p command k).reply) gives.0 replies in
+      let after_by : new ≡ state_after result p (stepped p command (kit_of spot files left (wanted p command))).state = subst (λ (k : LineKit). new ≡ state_after result p (stepped p command k).state) gives.0 after in
+      let rest : List ℕ = left_after (fills_of (takings_of spot left (wanted p command))) left in
+      let now : told_world new d ≡ Some (world_of new files rest) =
+      told_after n new a d files left acts.made acts.takes f e ∙ ap (λ xs. Some (world_of new files (left_after (fills_of xs) left))) gives.1 in
+      subst (λ (x : Commanded). Executes result x (told_world new d) acts.made) (sym done)
+      (finish result (taking spot w command) (told_world new d) p new (stepped p command (kit_of spot files left (wanted p command))).state files rest acts.made replies_by gives.1 after_by now refl));
+}
 
-pub quiet_command : (n m : ℕ) (w : World) (command : KeyCmd) → (commanded n (failing m []) w command).world.failed ≡ w.failed
-quiet_command n m w command = by_refusal (refusal_of w.keys command) where
-  by_refusal : (refusal : Option Refusal) → (unless_refused n (failing m []) w command refusal).world.failed ≡ w.failed
-  by_refusal (Some why) = refl
-  by_refusal None = ap (λ xs. w.failed ++ xs) (quiet_kit n m w.files w.entropy (wanted w.keys command)) ∙ append-nil w.failed
-
-quiet_if : (n m : ℕ) (w : World) (given : Result KeyCmd Refusal) → (commanded_if n (failing m []) w given).world.failed ≡ w.failed
-quiet_if n m w (Ok command) = quiet_command n m w command
-quiet_if n m w (Err why) = refl
-
-pub quiet_line : (n m : ℕ) (w : World) (line : Line) → (answer_of n (failing m []) w line).world.failed ≡ w.failed
-quiet_line n m w Silent = refl
-quiet_line n m w (Create word opts) = quiet_if n m w (command_named (λ name. commands.Create name opts) (named word))
-quiet_line n m w (LoadKey word) = quiet_if n m w (command_named (λ name. commands.Load name false None) (named word))
-quiet_line n m w (UnloadKey word) = quiet_if n m w (command_named (λ name. commands.Unload name) (named word))
-quiet_line n m w (Get prop word) = quiet_if n m w (command_named (λ name. commands.Get name prop) (named word))
-quiet_line n m w ListSets = refl
-
-failed_of : (p : Plain) (files : Option (List (List ℕ × List ℕ))) (entropy : Option (List ℕ)) (a b : List FoundEntry) (same : World → List FoundEntry) → ((w : World) → w.failed ≡ a → b ≡ same w) → IfSome (told_world p files entropy a) (λ w. b ≡ same w)
-failed_of p None entropy a b same each = tt
-failed_of p (Some files) None a b same each = tt
-failed_of p (Some files) (Some entropy) a b same each = each (record { keys = p; files = files; entropy = entropy; failed = a }) refl
-
--- of a refusal, of a line that had no memory to begin, and of one that is none
-pub listed_before : (n : ℕ) (p : Plain) (command : KeyCmd) (files : Option (List (List ℕ × List ℕ))) (entropy : Option (List ℕ)) (found : List FoundEntry)
-    → IfSome (told_world p files entropy found) (λ w. found ≡ (commanded n (failing_since n found found) w command).world.failed)
-listed_before n p command files entropy found =
-    failed_of p files entropy found found (λ w. (commanded n (failing_since n found found) w command).world.failed)
-    (λ w same. sym (ap (λ (xs : List FoundEntry). (commanded n (failing n xs) w command).world.failed) (since_none found) ∙ quiet_command n n w command ∙ same))
-
-pub listed_unread : (n : ℕ) (p : Plain) (outcome : Result Line ℕ) (files : Option (List (List ℕ × List ℕ))) (entropy : Option (List ℕ)) (found : List FoundEntry)
-    → IfSome (told_world p files entropy found) (λ w. found ≡ listed_after n (failing_since n found found) w outcome)
-listed_unread n p (Ok line) files entropy found =
-    failed_of p files entropy found found (λ w. (answer_of n (failing_since n found found) w line).world.failed)
-    (λ w same. sym (ap (λ (xs : List FoundEntry). (answer_of n (failing n xs) w line).world.failed) (since_none found) ∙ quiet_line n n w line ∙ same))
-listed_unread n p (Err at) files entropy found = failed_of p files entropy found found (λ w. w.failed) (λ w same. sym same)
-
--- a command that a word gives
-named_world : (n : ℕ) (w : World) (command : Result KeyCmd Stop) (given : Result KeyCmd Refusal) (b : List FoundEntry) → Gives command given → b ≡ listed_for n (failing_since n w.failed b) w command
-    → b ≡ (commanded_if n (failing_since n w.failed b) w given).world.failed
-named_world n w (Ok command) given b gives listed = subst (λ (g : Result KeyCmd Refusal). b ≡ (commanded_if n (failing_since n w.failed b) w g).world.failed) (sym gives) listed
-named_world n w (Err (stops.Refused why)) given b gives listed = subst (λ (g : Result KeyCmd Refusal). b ≡ (commanded_if n (failing_since n w.failed b) w g).world.failed) (sym gives) listed
-named_world n w (Err stops.NoMemory) given b gives listed =
-    subst (λ (xs : List FoundEntry). xs ≡ (commanded_if n (failing_since n w.failed xs) w given).world.failed) (sym listed)
-    (sym (ap (λ (xs : List FoundEntry). (commanded_if n (failing n xs) w given).world.failed) (since_none w.failed) ∙ quiet_if n n w given))
-
-pub listed_named : (n : ℕ) (p : Plain) (command : Result KeyCmd Stop) (given : Result KeyCmd Refusal) (files : Option (List (List ℕ × List ℕ))) (entropy : Option (List ℕ)) (a b : List FoundEntry) → Gives command given
-    → IfSome (told_world p files entropy a) (λ w. b ≡ listed_for n (failing_since n a b) w command)
-    → IfSome (told_world p files entropy a) (λ w. b ≡ (commanded_if n (failing_since n a b) w given).world.failed)
-listed_named n p command given None entropy a b gives listed = tt
-listed_named n p command given (Some files) None a b gives listed = tt
-listed_named n p command given (Some files) (Some entropy) a b gives listed = named_world n (record { keys = p; files = files; entropy = entropy; failed = a }) command given b gives listed
+pub executed_stopped : (n : ℕ) (p : Plain) (command : KeyCmd) (needs : Needs) (stop : AllocError) (a d : Outer) → needed p command ≡ Ok needs
+    → Acts n a d (λ made. (entries : List FoundEntry) → Agrees entries made → TakesKit (Err stop) n (wants_of needs) entries a made)
+    → Acts n a d (λ made. WhereTold (told_world p a) made (λ entries w. Executes (Err stops.NoMemory) (commanded (spot_of n entries) w command) (told_world p d) made))
+executed_stopped n p command needs stop a d known acts = record {
+  made = acts.made;
+  takes = acts.takes;
+  said = λ entries agrees. told_each p a (λ w. Executes (Err stops.NoMemory) (commanded (spot_of n entries) w command) (told_world p d) acts.made) (λ files left f e.
+      let w : World = world_of p files left in
+      let spot : Spot = spot_of n entries in
+      let both = accepted_by p command needs (refusal_of p command) known in
+      let gives : GivesKit (Err stop) spot files left (wanted p command) acts.made =
+      subst (λ (wants : Wanted). GivesKit (Err stop) spot files left wants acts.made) (sym both.1) (kit_at n (wants_of needs) entries a acts.made (Err stop) files left f e (acts.said entries agrees)) in
+      let done : commanded spot w command ≡ taking spot w command = ap (unless_refused spot w command) both.0 in
+      subst (λ (x : Commanded). IsFront acts.made x.takings) (sym done) gives);
+}
 
 -- ---- what is printed of it
 
-output_shown : (n : ℕ) (p : Plain) (reply : Reply) → reply_output n p reply ≡ shown_output n p.tree.rows (shown_of reply)
-output_shown n p Done = refl
-output_shown n p (Made id) = refl
-output_shown n p (Text text) = refl
-output_shown n p (Refused why) = refl
-output_shown n p (Reaped dataset dropped) = refl
-output_shown n p Skipped = refl
+done_output : (n : ℕ) (p : Plain) (reply : Reply) (text : List ℕ) → IsDone reply → text ≡ shown_output n p.tree.rows (Ok shows.Done) → text ≡ reply_output n p reply
+done_output n p Done text is_done same = same
+done_output n p (Made id) text is_done same = same
+done_output n p (Text other) text is_done same = absurd is_done
+done_output n p (Refused why) text is_done same = absurd is_done
+done_output n p (Reaped dataset dropped) text is_done same = absurd is_done
+done_output n p Skipped text is_done same = absurd is_done
 
-keys_told : (p : Plain) (files : Option (List (List ℕ × List ℕ))) (entropy : Option (List ℕ)) (failed : List FoundEntry) (w : World) → told_world p files entropy failed ≡ Some w → w.keys ≡ p
-keys_told p None entropy failed w told = absurd (cc)
-keys_told p (Some files) None failed w told = absurd (cc)
-keys_told p (Some files) (Some entropy) failed w told =
-    let same : (let v : World = record { keys = p; files = files; entropy = entropy; failed = failed } in v) ≡ w = cc in
-    sym (ap (λ (v : World). v.keys) same)
+shown_ok : (n : ℕ) (p : Plain) (shown : Shown) (reply : Reply) → Replies (Ok shown) reply → shown_output n p.tree.rows (Ok shown) ≡ reply_output n p reply
+shown_ok n p shows.Done reply replies = done_output n p reply (shown_output n p.tree.rows (Ok shows.Done)) replies refl
+shown_ok n p (shows.Text text) reply replies = ap (reply_output n p) (sym replies)
 
-printed : (n : ℕ) (p : Plain) (done : Commanded) (shown : Result Shown Refusal) (before after : List ℕ) → shown_of done.reply ≡ shown → done.world.keys ≡ p → after ≡ before ++ shown_output n p.tree.rows shown
-    → after ≡ before ++ reply_output n done.world.keys done.reply
-printed n p done shown before after gives keys shows =
-    shows ∙ ap (λ s. before ++ shown_output n p.tree.rows s) (sym gives) ∙ ap (λ (q : Plain). before ++ shown_output n q.tree.rows (shown_of done.reply)) (sym keys) ∙ ap (λ out. before ++ out) (sym (output_shown n done.world.keys done.reply))
+turned : (n : ℕ) (p : Plain) (outer : Outer) (shown : Result Shown Stop) (done : Commanded) (before after : List ℕ) (made : List Taking) → Executes shown done (told_world p outer) made → Shows n p.tree.rows shown before after
+    → HasTurn (Ok tt) (turn_of n done) (told_world p outer) before after made
+turned n p outer (Ok shown) done before after made executes printed =
+    let keys : done.world.present.keys ≡ p = keys_told p outer done.world executes.1 in
+    (executes.1, printed ∙ ap (λ out. before ++ out) (shown_ok n p shown done.reply executes.0 ∙ ap (λ q. reply_output n q done.reply) (sym keys)), executes.2)
+turned n p outer (Err (stops.Refused why)) done before after made executes printed =
+    let keys : done.world.present.keys ≡ p = keys_told p outer done.world executes.1 in
+    (executes.1, printed ∙ ap (λ out. before ++ out) (ap (reply_output n p) (sym executes.0) ∙ ap (λ q. reply_output n q done.reply) (sym keys)), executes.2)
+turned n p outer (Err stops.NoMemory) done before after made executes printed = absurd printed
 
-shown_as : (n : ℕ) (p : Plain) (files : Option (List (List ℕ × List ℕ))) (entropy : Option (List ℕ)) (failed : List FoundEntry) (shown : Result Shown Stop) (done : Commanded) (before after : List ℕ)
-    → Executes shown done (told_world p files entropy failed) → Shows n p.tree.rows shown before after → (told_world p files entropy failed ≡ Some done.world) × (after ≡ before ++ reply_output n done.world.keys done.reply)
-shown_as n p files entropy failed (Ok shown) done before after executes shows = (executes.1, printed n p done (Ok shown) before after executes.0 (keys_told p files entropy failed done.world executes.1) shows)
-shown_as n p files entropy failed (Err (stops.Refused why)) done before after executes shows = (executes.1, printed n p done (Err why) before after executes.0 (keys_told p files entropy failed done.world executes.1) shows)
-shown_as n p files entropy failed (Err stops.NoMemory) done before after executes shows = absurd shows
+begun : (shown : Result Shown Stop) (done : Commanded) (new : Option World) (made : List Taking) → Executes shown done new made → IsFront made done.takings
+begun (Ok shown) done new made executes = front_all made done.takings executes.2
+begun (Err (stops.Refused why)) done new made executes = front_all made done.takings executes.2
+begun (Err stops.NoMemory) done new made executes = executes
 
-pub commands_by : (n : ℕ) (fails : Failing) (command : KeyCmd) (old : Option World) (p : Plain) (files : Option (List (List ℕ × List ℕ))) (entropy : Option (List ℕ)) (failed : List FoundEntry) (shown : Result Shown Stop) (before after : List ℕ)
-    → IfSome old (λ w. Executes shown (commanded n fails w command) (told_world p files entropy failed)) → Shows n p.tree.rows shown before after
-    → Commands n fails (Ok command) old (told_world p files entropy failed) before after
-commands_by n fails command None p files entropy failed shown before after executes shows = tt
-commands_by n fails command (Some w) p files entropy failed shown before after executes shows = shown_as n p files entropy failed shown (commanded n fails w command) before after executes shows
+pub has_turn : (n : ℕ) (p : Plain) (outer : Outer) (shown : Result Shown Stop) (done : Commanded) (result : Result (Unit {0}) AllocError) (before after : List ℕ) (made : List Taking) → Executes shown done (told_world p outer) made
+    → OnOk result (Shows n p.tree.rows shown before after) → HasTurn result (turn_of n done) (told_world p outer) before after made
+has_turn n p outer shown done (Ok ok) before after made executes printed = turned n p outer shown done before after made executes printed
+has_turn n p outer shown done (Err stop) before after made executes printed = begun shown done (told_world p outer) made executes
+
+pub commands_shown : (n : ℕ) (p new : Plain) (a d : Outer) (command : KeyCmd) (shown : Result Shown Stop) (result : Result (Unit {0}) AllocError) (before after : List ℕ)
+    → Acts n a d (λ made. WhereTold (told_world p a) made (λ entries w. Executes shown (commanded (spot_of n entries) w command) (told_world new d) made)) → OnOk result (Shows n new.tree.rows shown before after)
+    → Acts n a d (λ made. WhereTold (told_world p a) made (λ entries w. Commands result n (Ok command) entries w (told_world new d) before after made))
+commands_shown n p new a d command shown result before after acts printed = record {
+  made = acts.made;
+  takes = acts.takes;
+  said = λ entries agrees. on_some (told_world p a) (λ w. Executes shown (commanded (spot_of n entries) w command) (told_world new d) acts.made) (λ w. Commands result n (Ok command) entries w (told_world new d) before after acts.made)
+      (λ w executes. has_turn n new d shown (commanded (spot_of n entries) w command) result before after acts.made executes printed) (acts.said entries agrees);
+} where
+  on_some : (o : Option World) (P Q : World → Type 0) → ((w : World) → P w → Q w) → IfSome o P → IfSome o Q
+  on_some None P Q follows holds = tt
+  on_some (Some w) P Q follows holds = follows w holds
+
+-- a refusal in place of a command
+refused_turn : (n : ℕ) (p : Plain) (outer : Outer) (why : Refusal) (w : World) (result : Result (Unit {0}) AllocError) (before after : List ℕ) → told_world p outer ≡ Some w
+    → OnOk result (after ≡ before ++ error_line n p.tree.rows why) → HasTurn result (turn_of n (refused_at_once w why)) (told_world p outer) before after []
+refused_turn n p outer why w (Ok ok) before after told printed =
+    (told, printed ∙ ap (λ (q : Plain). before ++ error_line n q.tree.rows why) (sym (keys_told p outer w told)), refl)
+refused_turn n p outer why w (Err stop) before after told printed = front_nil _
+
+pub commands_stopped : (n : ℕ) (p : Plain) (outer : Outer) (stop : Stop) (result : Result (Unit {0}) AllocError) (before after : List ℕ) → OnOk result (Shows n p.tree.rows (Err stop) before after)
+    → Acts n outer outer (λ made. WhereTold (told_world p outer) made (λ entries w. Commands result n (Err stop) entries w (told_world p outer) before after made))
+commands_stopped n p outer (stops.Refused why) result before after printed =
+    acts_not n outer (λ made. WhereTold (told_world p outer) made (λ entries w. Commands result n (Err (stops.Refused why)) entries w (told_world p outer) before after made))
+    (λ entries agrees. told_each p outer (λ w. Commands result n (Err (stops.Refused why)) entries w (told_world p outer) before after [])
+    (λ files left f e. refused_turn n p outer why (world_of p files left) result before after (told_of p outer files left f e) printed))
+commands_stopped n p outer stops.NoMemory result before after printed =
+    acts_not n outer (λ made. WhereTold (told_world p outer) made (λ entries w. Commands result n (Err stops.NoMemory) entries w (told_world p outer) before after made))
+    (λ entries agrees. told_each p outer (λ w. Commands result n (Err stops.NoMemory) entries w (told_world p outer) before after []) (λ files left f e. (refl, never result printed))) where
+  never : (r : Result (Unit {0}) AllocError) → OnOk r (Shows n p.tree.rows (Err stops.NoMemory) before after) → r ≢ Ok tt
+  never (Ok ok) shown same = shown
+  never (Err stop) shown same = cc
 
 -- a command that a word gives
-pub carried : (n : ℕ) (fails : Failing) (command : Result KeyCmd Stop) (given : Result KeyCmd Refusal) (old new : Option World) (before after : List ℕ) → Gives command given → Commands n fails command old new before after
-    → IfSome old (λ w. (new ≡ Some (commanded_if n fails w given).world) × (after ≡ before ++ reply_output n (commanded_if n fails w given).world.keys (commanded_if n fails w given).reply))
-carried n fails (Ok command) given None new before after gives answered = tt
-carried n fails (Ok command) given (Some w) new before after gives answered =
-    subst (λ (g : Result KeyCmd Refusal). (new ≡ Some (commanded_if n fails w g).world) × (after ≡ before ++ reply_output n (commanded_if n fails w g).world.keys (commanded_if n fails w g).reply)) (sym gives) answered
-carried n fails (Err (stops.Refused why)) given None new before after gives answered = tt
-carried n fails (Err (stops.Refused why)) given (Some w) new before after gives answered =
-    subst (λ (g : Result KeyCmd Refusal). (new ≡ Some (commanded_if n fails w g).world) × (after ≡ before ++ reply_output n (commanded_if n fails w g).world.keys (commanded_if n fails w g).reply)) (sym gives) answered
-carried n fails (Err stops.NoMemory) given old new before after gives answered = absurd answered
+pub named_turn : (n : ℕ) (result : Result (Unit {0}) AllocError) (command : Result KeyCmd Stop) (given : Result KeyCmd Refusal) (entries : List FoundEntry) (w : World) (new : Option World) (before after : List ℕ) (made : List Taking) → Gives command given
+    → Commands result n command entries w new before after made → HasTurn result (turn_of n (commanded_if (spot_of n entries) w given)) new before after made
+named_turn n result (Ok command) given entries w new before after made gives answered =
+    subst (λ (g : Result KeyCmd Refusal). HasTurn result (turn_of n (commanded_if (spot_of n entries) w g)) new before after made) (sym gives) answered
+named_turn n result (Err (stops.Refused why)) given entries w new before after made gives answered =
+    subst (λ (g : Result KeyCmd Refusal). HasTurn result (turn_of n (commanded_if (spot_of n entries) w g)) new before after made) (sym gives) answered
+named_turn n (Ok ok) (Err stops.NoMemory) given entries w new before after made gives answered = absurd (answered.1 refl)
+named_turn n (Err stop) (Err stops.NoMemory) given entries w new before after made gives answered =
+    subst (λ xs. IsFront xs (turn_of n (commanded_if (spot_of n entries) w given)).takings) (sym answered.0) (front_nil (turn_of n (commanded_if (spot_of n entries) w given)).takings)
+
+-- ---- a line
+
+pub on_told : (world : Option World) (P Q : World → Type 0) → ((w : World) → P w → Q w) → IfSome world P → IfSome world Q
+on_told None P Q follows holds = tt
+on_told (Some w) P Q follows holds = follows w holds
+
+-- a line whose word names a command
+pub carried : (n : ℕ) (p new : Plain) (a d : Outer) (line : Line) (result : Result (Unit {0}) AllocError) (command : Result KeyCmd Stop) (given : Result KeyCmd Refusal) (before after : List ℕ)
+    → ((entries : List FoundEntry) (w : World) (later : List (List ℕ)) → answer_of n entries w line later ≡ Goes (turn_of n (commanded_if (spot_of n entries) w given))) → Gives command given
+    → Acts n a d (λ made. WhereTold (told_world p a) made (λ entries w. Commands result n command entries w (told_world new d) before after made))
+    → Acts n a d (λ made. WhereTold (told_world p a) made (λ entries w. CarriesOut result n line entries w (told_world new d) before after made))
+carried n p new a d line result command given before after is gives acts =
+    acts_on n a d (λ made. WhereTold (told_world p a) made (λ entries w. Commands result n command entries w (told_world new d) before after made))
+    (λ made. WhereTold (told_world p a) made (λ entries w. CarriesOut result n line entries w (told_world new d) before after made))
+    (λ made said entries agrees.
+    on_told (told_world p a) (λ w. Commands result n command entries w (told_world new d) before after made) (λ w. CarriesOut result n line entries w (told_world new d) before after made)
+    (λ w answered later.
+    subst (λ (answer : Answer). HasAnswer result answer (told_world new d) before after made) (sym (is entries w later))
+    (named_turn n result command given entries w (told_world new d) before after made gives answered, refl))
+    (said entries agrees)) acts
+
+-- a line that takes nothing
+still_turn : (n : ℕ) (p : Plain) (outer : Outer) (turn : Turn) (result : Result (Unit {0}) AllocError) (before after : List ℕ) → told_world p outer ≡ Some turn.world → turn.takings ≡ [] → OnOk result (after ≡ before ++ turn.output)
+    → HasTurn result turn (told_world p outer) before after []
+still_turn n p outer turn (Ok ok) before after told none printed = (told, printed, sym none)
+still_turn n p outer turn (Err stop) before after told none printed = front_nil turn.takings
+
+pub carried_still : (n : ℕ) (p : Plain) (outer : Outer) (line : Line) (turn : World → Turn) (output : List ℕ) (result : Result (Unit {0}) AllocError) (before after : List ℕ)
+    → ((entries : List FoundEntry) (w : World) (later : List (List ℕ)) → answer_of n entries w line later ≡ Goes (turn w)) → ((w : World) → (turn w).world ≡ w) → ((w : World) → (turn w).takings ≡ []) → ((w : World) → (turn w).lines ≡ 1)
+    → ((w : World) → w.present.keys ≡ p → (turn w).output ≡ output) → OnOk result (after ≡ before ++ output)
+    → Acts n outer outer (λ made. WhereTold (told_world p outer) made (λ entries w. CarriesOut result n line entries w (told_world p outer) before after made))
+carried_still n p outer line turn output result before after is world none one out printed =
+    acts_not n outer (λ made. WhereTold (told_world p outer) made (λ entries w. CarriesOut result n line entries w (told_world p outer) before after made))
+    (λ entries agrees. told_each p outer (λ w. CarriesOut result n line entries w (told_world p outer) before after []) (λ files left f e later.
+    let w : World = world_of p files left in
+    let printed_by : OnOk result (after ≡ before ++ (turn w).output) = subst (λ (text : List ℕ). OnOk result (after ≡ before ++ text)) (sym (out w refl)) printed in
+    subst (λ (answer : Answer). HasAnswer result answer (told_world p outer) before after []) (sym (is entries w later))
+    (still_turn n p outer (turn w) result before after (told_of p outer files left f e ∙ ap (λ v. Some v) (sym (world w))) (none w) printed_by, one w)))
+
+-- bytes that spell a line
+pub spelled_ok : (n : ℕ) (p new : Plain) (a d : Outer) (line : Line) (outcome : Result Line ℕ) (before after : List ℕ) → outcome ≡ Ok line
+    → Acts n a d (λ made. WhereTold (told_world p a) made (λ entries w. CarriesOut (Ok tt) n line entries w (told_world new d) before after made))
+    → Acts n a d (λ made. WhereTold (told_world p a) made (λ entries w. AnswersTo (Ok tt) n outcome entries w (told_world new d) before after made))
+spelled_ok n p new a d line outcome before after spells acts =
+    subst (λ (o : Result Line ℕ). Acts n a d (λ made. WhereTold (told_world p a) made (λ entries w. AnswersTo (Ok tt) n o entries w (told_world new d) before after made))) (sym spells) acts
+
+front_of_answer : (stop : AllocError) (answer : Answer) (new : Option World) (before after : List ℕ) (made : List Taking) → HasAnswer (Err stop) answer new before after made → IsFront made (answer_takings answer)
+front_of_answer stop (Goes turn) new before after made answered = answered.0
+front_of_answer stop (Ends number at w takings) new before after made answered = absurd answered
+
+pub spelled_stopped : (n : ℕ) (p new : Plain) (a d : Outer) (line : Line) (outcome : Result Line ℕ) (stop : AllocError) (before after : List ℕ) → outcome ≡ Ok line
+    → Acts n a d (λ made. WhereTold (told_world p a) made (λ entries w. CarriesOut (Err stop) n line entries w (told_world new d) before after made))
+    → Acts n a d (λ made. WhereTold (told_world p a) made (λ entries w. AnswersTo (Err line_stops.NoMemory) n outcome entries w (told_world new d) before after made))
+spelled_stopped n p new a d line outcome stop before after spells acts =
+    let P : List Taking → Result Line ℕ → Type 0 = λ made o. WhereTold (told_world p a) made (λ entries w. AnswersTo (Err line_stops.NoMemory) n o entries w (told_world new d) before after made) in
+    acts_on n a d (λ made. WhereTold (told_world p a) made (λ entries w. CarriesOut (Err stop) n line entries w (told_world new d) before after made)) (λ made. P made outcome)
+    (λ made said. subst (P made) (sym spells) (λ entries agrees.
+    on_told (told_world p a) (λ w. CarriesOut (Err stop) n line entries w (told_world new d) before after made) (λ w. AnswersTo (Err line_stops.NoMemory) n (Ok line) entries w (told_world new d) before after made)
+    (λ w answered later. front_of_answer stop (answer_of n entries w line later) (told_world new d) before after made (answered later))
+    (said entries agrees))) acts
+
+-- bytes that spell none, or for which memory was wanting
+pub spelled_not : (n : ℕ) (p : Plain) (outer : Outer) (stop : LineStop) (outcome : Result Line ℕ) (before after : List ℕ) → Spells (Err stop) outcome
+    → Acts n outer outer (λ made. WhereTold (told_world p outer) made (λ entries w. AnswersTo (Err stop) n outcome entries w (told_world p outer) before after made))
+spelled_not n p outer (line_stops.Bad at) outcome before after bad =
+    acts_not n outer (λ made. WhereTold (told_world p outer) made (λ entries w. AnswersTo (Err (line_stops.Bad at)) n outcome entries w (told_world p outer) before after made))
+    (λ entries agrees. told_each p outer (λ w. AnswersTo (Err (line_stops.Bad at)) n outcome entries w (told_world p outer) before after []) (λ files left f e. (bad, refl)))
+spelled_not n p outer line_stops.NoMemory outcome before after none =
+    acts_not n outer (λ made. WhereTold (told_world p outer) made (λ entries w. AnswersTo (Err line_stops.NoMemory) n outcome entries w (told_world p outer) before after made))
+    (λ entries agrees. told_each p outer (λ w. AnswersTo (Err line_stops.NoMemory) n outcome entries w (told_world p outer) before after []) (λ files left f e later. front_nil _))
 
 -- ---- a call of the keystore that stops
 
-pub gives_made : (stop : Stop) (reply : Reply) → AnswersMade (Err stop) reply → Gives (let stopped : Result Shown Stop = Err stop in stopped) (shown_of reply)
-gives_made (stops.Refused why) reply answers = ap shown_of answers
-gives_made stops.NoMemory reply answers = tt
+pub replies_made : (stop : Stop) (reply : Reply) → AnswersMade (Err stop) reply → Replies (Err stop) reply
+replies_made (stops.Refused why) reply answers = answers
+replies_made stops.NoMemory reply answers = tt
 
-pub gives_done : (stop : Stop) (reply : Reply) → AnswersDone (let stopped : Result (Unit {0}) Stop = Err stop in stopped) reply → Gives (let stopped : Result Shown Stop = Err stop in stopped) (shown_of reply)
-gives_done (stops.Refused why) reply answers = ap shown_of answers
-gives_done stops.NoMemory reply answers = tt
+pub replies_done : (stop : Stop) (reply : Reply) → AnswersDone (let stopped : Result (Unit {0}) Stop = Err stop in stopped) reply → Replies (Err stop) reply
+replies_done (stops.Refused why) reply answers = answers
+replies_done stops.NoMemory reply answers = tt
 
 pub same_state : (T : Type 0) (stop : Stop) (before after : Plain) → state_after (let stopped : Result T Stop = Err stop in stopped) before after ≡ state_after (let stopped : Result Shown Stop = Err stop in stopped) before after
 same_state T (stops.Refused why) before after = refl
 same_state T stops.NoMemory before after = refl
-
-pub on_ok : {T E : Type 0} (r : Result T E) (P Q : Type 0) → OnOk r P → (P → Q) → OnOk r Q
-on_ok (Ok x) P Q holds follows = follows holds
-on_ok (Err e) P Q holds follows = tt

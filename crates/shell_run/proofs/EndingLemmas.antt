@@ -1,294 +1,318 @@
--- The end of a run.
-use Rattle.std.proofs.Common.{◌≡◌, ◌⊎◌, ℕ, ◌≤◌, List, [], ◌∷◌, ◌++◌, Option, Some, None, IfSome, refl, ap, sym, ◌∙◌, subst, append_assoc, arith, inl, inr, ⊎_elim}
+-- What a run has done, once its last line is written.
+use Rattle.std.proofs.Common.{◌≡◌, ◌≢◌, ◌⊎◌, inl, inr, ⊎_elim, ℕ, zero, suc, ◌+◌, ◌*◌, ◌≤◌, ◌<◌, nat_lt, Bool, true, false, ◌||◌, List, [], ◌∷◌, ◌++◌, length, take, drop, if◌then◌else◌, Option, Some, None, IfSome, refl, ap, sym, ◌∙◌, subst, append_assoc, arith, length-append, length-drop}
+use Rattle.std.specs.Option.{option_and_then, option_map}
+use Rattle.std.specs.List.{AllByRecursion}
 use Rattle.std.specs.Io.KnownBytes.{Appends}
+use Rattle.std.proofs.lemmas.List.{append-nil}
+use Rattle.std.proofs.lemmas.Bool.Decides.{nat_tests}
+use Rattle.edge_io.specs.Counts.{one_more, raised, is_listed}
+use Rattle.edge_io.specs.Entropy.{is_short}
 use Rattle.edge_io.specs.Faults.{Rose}
 use Rattle.edge_io.specs.Told.{unread}
 use Rattle.key_machine.specs.Plain.{no_keys}
 use Rattle.shell_run.specs.declared.ending.Ending.{Ending}
 use Rattle.shell_run.specs.declared.ending.Ending.TheVariants.{Done, Usage, BadLine, ReadFault, WriteFault, NoMemory}
 use Rattle.shell_run.specs.declared.found.FoundEntry.{FoundEntry}
-use Rattle.shell_run.specs.Endings.{EndsAs, IsEnd, Leaves, SourceFaults, SinkFaults, status_of, closing_line, ClosesAs}
-use Rattle.shell_run.specs.Failing.{since}
-use Rattle.shell_run.specs.Progress.{Ends, Took, Closes}
-use Rattle.shell_run.specs.Texts.{bad_line, usage_line, read_fault_line, no_memory_line}
-use Rattle.shell_run.specs.Transcript.{World, told_world, told_transcript, Run, output_of, transcript, run_from}
-use Rattle.shell_run.specs.Written.{IsFront, IsAnswered, Wrote, last_line}
-use Rattle.edge_io.specs.Lines.{lines}
-use Rattle.shell_run.proofs.TakingLemmas.{since_none}
-use Rattle.shell_run.proofs.RunLemmas.{quiet_from, failed_told}
-use Rattle.shell_run.proofs.WritingLemmas.{append_nil, Appends-nil}
+use Rattle.shell_run.specs.declared.found.FoundKind.{FoundKind}
+use Rattle.shell_run.specs.Answers.{Agrees}
+use Rattle.shell_run.specs.Endings.{status_of, closing_line, SinkFaults, ClosesAs}
+use Rattle.shell_run.specs.Outer.{Outer, Calls, Called, Takes, FailWhereListedOrShort, failed_count}
+use Rattle.shell_run.specs.Progress.{Taken, Ends as EndsSo, WroteLast, RunsFrom}
+use Rattle.shell_run.specs.Ran.{IsAnswered, IsFront, IsCut, Came, Closes, Took, Printed, Ran, last_line}
+use Rattle.shell_run.specs.Takings.{Taking, failures, is_fetch, is_fill, outcomes, fetches_of, fills_of}
+use Rattle.shell_run.specs.Texts.{bad_line}
+use Rattle.shell_run.specs.Transcript.{World, told_world, Run, Turn, replies_of, made_in, output_of, transcript, told_transcript}
+use Rattle.shell_run.proofs.CommandLemmas.{front_nil}
+use Rattle.shell_run.proofs.RunLemmas.{flat_map_both, unanswered}
+use Rattle.shell_run.proofs.TakingLemmas.{agrees_failures, failures_both, outcomes_both}
+use Rattle.shell_run.proofs.WritingLemmas.{Took-after, Took-from_Appends}
 
--- the end of a script that was read by a reader that began with nothing
+-- where a run begins at the reader's first byte
+pub all_read_where_told : (e : Ending) (told left : Option (List ℕ)) (reader rest : List ℕ) → reader ≡ [] → (e ≡ Done → IfSome (unread reader told) (λ bytes. unread rest left ≡ Some []))
+    → e ≡ Done → IfSome told (λ bytes. left ≡ Some [])
+all_read_where_told e None left reader rest empty end done = tt
+all_read_where_told e (Some bytes) None reader rest empty end done = absurd (let none : None ≡ Some [] = end done in cc)
+all_read_where_told e (Some bytes) (Some more) [] rest empty end done = let all : Some (rest ++ more) ≡ Some [] = end done in ap (λ xs. Some xs) (second rest more (let same : rest ++ more ≡ [] = cc in same)) where
+  second : (xs ys : List ℕ) → xs ++ ys ≡ [] → ys ≡ []
+  second [] ys e = e
+  second (x ∷ xs) ys e = absurd (cc)
+all_read_where_told e (Some bytes) (Some more) (byte ∷ reader) rest empty end done = absurd (cc)
 
-pub all_read : (pending : List ℕ) (left : Option (List ℕ)) → unread pending left ≡ Some [] → left ≡ Some []
-all_read pending None e = cc
-all_read [] (Some bytes) e = e
-all_read (byte ∷ pending) (Some bytes) e = cc
+-- ---- the run that is told
 
--- the last line, behind the replies
+told_run : (script : Option (List ℕ)) (world : Option World) (run : List ℕ → World → Run) (P : Run → Type 0) → IfSome script (λ bytes. IfSome world (λ w. P (run bytes w)))
+    → IfSome (option_and_then (λ (bytes : List ℕ). option_map (run bytes) world) script) P
+told_run None world run P holds = tt
+told_run (Some bytes) None run P holds = tt
+told_run (Some bytes) (Some w) run P holds = holds
 
-wrote_last : (run : Run) (status : ℕ) (rose : Type 0) (replies part line : List ℕ) (before : List ℕ) (t1 t2 : Option (List ℕ)) → Appends (Some before) t1 replies → Took t1 t2 part
-    → IsFront part line → (part ≡ line) ⊎ rose → line ≡ last_line status run → IsFront replies run.replies → (IsAnswered status → (run.status ≡ status) × (replies ≡ run.replies))
-    → IfSome t2 (λ after. Wrote run status rose before after)
-wrote_last run status rose replies part line before None t2 taken closed front whole same begun answered = absurd taken
-wrote_last run status rose replies part line before (Some mid) None taken closed front whole same begun answered = tt
-wrote_last run status rose replies part line before (Some mid) (Some after) taken closed front whole same begun answered =
-    let P : List ℕ → Type 0 = λ l. IsFront part l in
-    let Q : List ℕ → Type 0 = λ l. (part ≡ l) ⊎ rose in
-    record {
-      replies = replies;
-      last = part;
-      written = closed ∙ ap (λ bytes. bytes ++ part) taken;
-      begun = begun;
-      ended = subst P same front;
-      whole = subst Q same whole;
-      answered = answered;
-    }
+-- ---- a run that is closed otherwise than it ended
 
-pub all_read_where_told : (e : Ending) (left now : Option (List ℕ)) (pending rest : List ℕ) → pending ≡ [] → (e ≡ Done → IfSome (unread pending left) (λ bytes. unread rest now ≡ Some [])) → e ≡ Done
-    → IfSome left (λ bytes. now ≡ Some [])
-all_read_where_told e None now pending rest none ends done = tt
-all_read_where_told e (Some bytes) now pending rest none ends done = all_read rest now (ends done)
-
--- the whole run, as it is told
-
-pub told_run : {W : Type 0} (words : List W) (script : Option (List ℕ)) (files : Option (List (List ℕ × List ℕ))) (entropy : Option (List ℕ)) (found : List FoundEntry) (P : Run → Type 0)
-    → IfSome script (λ bytes. IfSome (told_world no_keys files entropy []) (λ w. P (transcript words bytes found w))) → IfSome (told_transcript words script files entropy found) P
-told_run words None files entropy found P holds = tt
-told_run words (Some bytes) None entropy found P holds = tt
-told_run words (Some bytes) (Some files) None found P holds = tt
-told_run words (Some bytes) (Some files) (Some entropy) found P holds = holds
-
-pub from_nothing : {W : Type 0} (words : List W) (script : Option (List ℕ)) (files : Option (List (List ℕ × List ℕ))) (entropy : Option (List ℕ)) (old new : List FoundEntry) (P : Run → Type 0) → old ≡ []
-    → IfSome script (λ bytes. IfSome (told_world no_keys files entropy old) (λ w. P (transcript words bytes (since old new) w))) → IfSome (told_transcript words script files entropy new) P
-from_nothing words script files entropy old new P none holds =
-    told_run words script files entropy new P
-    (subst (λ (found : List FoundEntry). IfSome script (λ bytes. IfSome (told_world no_keys files entropy found) (λ w. P (transcript words bytes (since found new) w)))) none holds)
-
-read_fault_unanswered : IsAnswered 4 → ⊥
-read_fault_unanswered h = grind arith
-
-write_fault_unanswered : IsAnswered 5 → ⊥
-write_fault_unanswered h = grind arith
-
-no_memory_unanswered : IsAnswered 12 → ⊥
-no_memory_unanswered h = grind arith
-
--- a run that is answered has all replies
-record IsWhole (run : Run) (status : ℕ) (replies last : List ℕ) : Type 0 where
-  same : last ≡ run.last
-  begun : IsFront replies run.replies
-  answered : (run.status ≡ status) × (replies ≡ run.replies)
-
-whole_run : (run : Run) (status : ℕ) (replies last entropy : List ℕ) → IsEnd run status replies last entropy → IsWhole run status replies last
-whole_run run status replies last entropy e = record {
-  same = sym e.last;
-  begun = ([], e.replies ∙ append_nil replies);
-  answered = (e.status, sym e.replies);
+came_without_memory : (run : Run) (replies : List ℕ) (made : List Taking) → Came run 3 replies made → Came run 12 replies made
+came_without_memory run replies made c = record {
+  turns = c.turns;
+  later = c.later;
+  whole = c.whole;
+  answered = λ answered. absurd (unanswered 12 (omega arith) answered);
+  replied = λ other. c.replied (λ e. absurd (omega (arith, e)));
+  taken = λ other memory. absurd (memory refl);
+  cut = λ five. absurd (omega (arith, five));
+  stopped = λ twelve. ([], c.taken (λ e. absurd (omega (arith, e))) (λ e. absurd (omega (arith, e))) ∙ sym (append-nil (made_in c.turns)), front_nil (made_in (take 1 c.later)));
 }
 
-wrote_whole : (run : Run) (status : ℕ) (rose : Type 0) (replies last : List ℕ) (before : List ℕ) (t1 t2 : Option (List ℕ)) → Appends (Some before) t1 replies → Closes last rose t1 t2
-    → run.last ≡ last_line status run → IsWhole run status replies last → IfSome t2 (λ after. Wrote run status rose before after)
-wrote_whole run status rose replies last before t1 t2 taken closed line whole =
-    wrote_last run status rose replies closed.part last before t1 t2 taken closed.taken closed.front closed.whole (whole.same ∙ line) whole.begun (λ answered. whole.answered)
+came_closed : (e closed : Ending) (run : Run) (replies : List ℕ) (made : List Taking) → ClosesAs e closed → Came run (status_of e) replies made → Came run (status_of closed) replies made
+came_closed (BadLine number at) closed run replies made closes_as came =
+    ⊎_elim (λ same. subst (λ (x : Ending). Came run (status_of x) replies made) (sym same) came)
+    (λ none. subst (λ (x : Ending). Came run (status_of x) replies made) (sym none) (came_without_memory run replies made came)) closes_as
+came_closed Done closed run replies made closes_as came = subst (λ (x : Ending). Came run (status_of x) replies made) (sym closes_as) came
+came_closed Usage closed run replies made closes_as came = subst (λ (x : Ending). Came run (status_of x) replies made) (sym closes_as) came
+came_closed ReadFault closed run replies made closes_as came = subst (λ (x : Ending). Came run (status_of x) replies made) (sym closes_as) came
+came_closed WriteFault closed run replies made closes_as came = subst (λ (x : Ending). Came run (status_of x) replies made) (sym closes_as) came
+came_closed NoMemory closed run replies made closes_as came = subst (λ (x : Ending). Came run (status_of x) replies made) (sym closes_as) came
 
-wrote_front : (run : Run) (status : ℕ) (rose : Type 0) (replies last : List ℕ) (before : List ℕ) (t1 t2 : Option (List ℕ)) → Appends (Some before) t1 replies → Closes last rose t1 t2
-    → last ≡ last_line status run → IsFront replies run.replies → (IsAnswered status → ⊥) → IfSome t2 (λ after. Wrote run status rose before after)
-wrote_front run status rose replies last before t1 t2 taken closed line begun unanswered =
-    wrote_last run status rose replies closed.part last before t1 t2 taken closed.taken closed.front closed.whole line begun (λ answered. absurd (unanswered answered))
+-- the last line of a closed run is that of its status
+own_line : (e : Ending) (run : Run) → (IsAnswered (status_of e) → run.last ≡ closing_line e) → status_of e ≢ 5 → last_line (status_of e) run ≡ closing_line e
+own_line Done run last other = last (inl refl)
+own_line Usage run last other = last (inr (inl refl))
+own_line (BadLine number at) run last other = last (inr (inr refl))
+own_line ReadFault run last other = refl
+own_line WriteFault run last other = absurd (other refl)
+own_line NoMemory run last other = refl
 
--- after a write fault nothing more is written
-wrote_no_more : (run : Run) (rose : Type 0) (replies before : List ℕ) (t1 : Option (List ℕ)) → Took (Some before) t1 replies → IsFront replies run.replies → IfSome t1 (λ after. Wrote run 5 rose before after)
-wrote_no_more run rose replies before None taken begun = tt
-wrote_no_more run rose replies before (Some after) taken begun = record {
-  replies = replies;
-  last = [];
-  written = taken ∙ append_nil (before ++ replies);
-  begun = begun;
-  ended = ([], refl);
-  whole = inl refl;
-  answered = λ answered. absurd (write_fault_unanswered answered);
-}
+closed_line : (e closed : Ending) (run : Run) → ClosesAs e closed → (IsAnswered (status_of e) → run.last ≡ closing_line e) → status_of closed ≢ 5 → last_line (status_of closed) run ≡ closing_line closed
+closed_line (BadLine number at) closed run closes_as last =
+    ⊎_elim (λ same. subst (λ (x : Ending). status_of x ≢ 5 → last_line (status_of x) run ≡ closing_line x) (sym same) (own_line (BadLine number at) run last))
+    (λ none. subst (λ (x : Ending). status_of x ≢ 5 → last_line (status_of x) run ≡ closing_line x) (sym none) (λ other. refl)) closes_as
+closed_line Done closed run closes_as last = subst (λ (x : Ending). status_of x ≢ 5 → last_line (status_of x) run ≡ closing_line x) (sym closes_as) (own_line Done run last)
+closed_line Usage closed run closes_as last = subst (λ (x : Ending). status_of x ≢ 5 → last_line (status_of x) run ≡ closing_line x) (sym closes_as) (own_line Usage run last)
+closed_line ReadFault closed run closes_as last = subst (λ (x : Ending). status_of x ≢ 5 → last_line (status_of x) run ≡ closing_line x) (sym closes_as) (own_line ReadFault run last)
+closed_line WriteFault closed run closes_as last = subst (λ (x : Ending). status_of x ≢ 5 → last_line (status_of x) run ≡ closing_line x) (sym closes_as) (own_line WriteFault run last)
+closed_line NoMemory closed run closes_as last = subst (λ (x : Ending). status_of x ≢ 5 → last_line (status_of x) run ≡ closing_line x) (sym closes_as) (own_line NoMemory run last)
 
--- a front of a bad line's replies
-bad_line_front : (run : Run) (number at : ℕ) (replies entropy : List ℕ) → EndsAs (BadLine number at) run replies entropy → IsFront replies run.replies
-bad_line_front run number at replies entropy e = (whole_run run 3 replies (bad_line number at) entropy e).begun
+-- ---- what was written
 
-wrote_as : (e closed : Ending) (run : Run) (rose : Type 0) (before : List ℕ) (t1 t2 left : Option (List ℕ)) (found : List FoundEntry) → Ends e run (Some before) t1 left found → closed ≡ e → Closes (closing_line e) rose t1 t2 → (closing_line e ≡ [] → t2 ≡ t1)
-    → IfSome t2 (λ after. Wrote run (status_of e) rose before after)
-wrote_as Done closed run rose before t1 t2 left found ends same line kept = wrote_whole run 0 rose ends.replies [] before t1 t2 ends.taken line refl (whole_run run 0 ends.replies [] ends.entropy ends.ends)
-wrote_as Usage closed run rose before t1 t2 left found ends same line kept = wrote_whole run 2 rose ends.replies usage_line before t1 t2 ends.taken line refl (whole_run run 2 ends.replies usage_line ends.entropy ends.ends)
-wrote_as (BadLine number at) closed run rose before t1 t2 left found ends same line kept =
-    wrote_whole run 3 rose ends.replies (bad_line number at) before t1 t2 ends.taken line refl (whole_run run 3 ends.replies (bad_line number at) ends.entropy ends.ends)
-wrote_as ReadFault closed run rose before t1 t2 left found ends same line kept = wrote_front run 4 rose ends.replies read_fault_line before t1 t2 ends.taken line refl ends.ends read_fault_unanswered
-wrote_as NoMemory closed run rose before t1 t2 left found ends same line kept = wrote_front run 12 rose ends.replies no_memory_line before t1 t2 ends.taken line refl ends.ends no_memory_unanswered
-wrote_as WriteFault closed run rose before t1 t2 left found ends same line kept =
-    let P : Option (List ℕ) → Type 0 = λ t. IfSome t (λ after. Wrote run 5 rose before after) in
-    subst P (sym (kept refl)) (wrote_no_more run rose ends.replies before t1 ends.taken ends.ends)
+taken_told : (e : Ending) (t0 t1 : Option (List ℕ)) (replies : List ℕ) → Taken e t0 t1 replies → Took t0 t1 replies
+taken_told WriteFault t0 t1 replies taken = taken
+taken_told Done t0 t1 replies taken = Took-from_Appends t0 t1 replies taken
+taken_told Usage t0 t1 replies taken = Took-from_Appends t0 t1 replies taken
+taken_told ReadFault t0 t1 replies taken = Took-from_Appends t0 t1 replies taken
+taken_told NoMemory t0 t1 replies taken = Took-from_Appends t0 t1 replies taken
+taken_told (BadLine number at) t0 t1 replies taken = Took-from_Appends t0 t1 replies taken
 
-wrote_closed : (e closed : Ending) (run : Run) (rose : Type 0) (before : List ℕ) (t1 t2 left : Option (List ℕ)) (found : List FoundEntry) → Ends e run (Some before) t1 left found → closed ≡ e → Closes (closing_line closed) rose t1 t2 → (closing_line closed ≡ [] → t2 ≡ t1)
-    → IfSome t2 (λ after. Wrote run (status_of closed) rose before after)
-wrote_closed e closed run rose before t1 t2 left found ends same line kept =
-    let P : Ending → Type 0 = λ x. Closes (closing_line x) rose t1 t2 → (closing_line x ≡ [] → t2 ≡ t1) → IfSome t2 (λ after. Wrote run (status_of x) rose before after) in
-    subst P (sym same) (wrote_as e e run rose before t1 t2 left found ends refl) line kept
+-- only a write fault leaves a sink that may tell nothing
+written_whole : (e closed : Ending) (t0 t1 t2 : Option (List ℕ)) (replies last : List ℕ) → ClosesAs e closed → Taken e t0 t1 replies → Took t1 t2 last → (closing_line closed ≡ [] → t2 ≡ t1) → (closing_line closed ≡ [] → last ≡ [])
+    → Took t0 t2 (replies ++ last)
+written_whole WriteFault closed t0 t1 t2 replies last closes_as taken more kept none =
+    let silent : closing_line closed ≡ [] = ap closing_line closes_as in
+    subst (λ (t : Option (List ℕ)). Took t0 t (replies ++ last)) (sym (kept silent))
+    (subst (λ (xs : List ℕ). Took t0 t1 (replies ++ xs)) (sym (none silent)) (subst (λ (xs : List ℕ). Took t0 t1 xs) (sym (append-nil replies)) taken))
+written_whole Done closed t0 t1 t2 replies last closes_as taken more kept none = Took-after t0 t1 t2 replies last taken more
+written_whole Usage closed t0 t1 t2 replies last closes_as taken more kept none = Took-after t0 t1 t2 replies last taken more
+written_whole ReadFault closed t0 t1 t2 replies last closes_as taken more kept none = Took-after t0 t1 t2 replies last taken more
+written_whole NoMemory closed t0 t1 t2 replies last closes_as taken more kept none = Took-after t0 t1 t2 replies last taken more
+written_whole (BadLine number at) closed t0 t1 t2 replies last closes_as taken more kept none = Took-after t0 t1 t2 replies last taken more
 
-wrote_without_memory : (number at : ℕ) (closed : Ending) (run : Run) (rose : Type 0) (before : List ℕ) (t1 t2 left : Option (List ℕ)) (found : List FoundEntry) → Ends (BadLine number at) run (Some before) t1 left found → closed ≡ NoMemory → Closes (closing_line closed) rose t1 t2
-    → IfSome t2 (λ after. Wrote run (status_of closed) rose before after)
-wrote_without_memory number at closed run rose before t1 t2 left found ends same line =
-    let P : Ending → Type 0 = λ x. Closes (closing_line x) rose t1 t2 → IfSome t2 (λ after. Wrote run (status_of x) rose before after) in
-    subst P (sym same) (λ line. wrote_front run 12 rose ends.replies no_memory_line before t1 t2 ends.taken line refl (bad_line_front run number at ends.replies ends.entropy ends.ends) no_memory_unanswered) line
+-- a cut needs a line
+closes_nil : (line last : List ℕ) (before now : ℕ) → line ≡ [] → Closes line last before now → last ≡ []
+closes_nil line last before now empty closed =
+    ⊎_elim (λ whole. whole.0 ∙ empty) (λ cut. absurd (cut.0.2 (second last cut.0.0 (sym cut.0.1 ∙ empty)))) closed where
+  second : (xs ys : List ℕ) → xs ++ ys ≡ [] → ys ≡ []
+  second [] ys e = e
+  second (x ∷ xs) ys e = absurd (cc)
 
-wrote_any : (e closed : Ending) (run : Run) (rose : Type 0) (before : List ℕ) (t1 t2 left : Option (List ℕ)) (found : List FoundEntry) → Ends e run (Some before) t1 left found → ClosesAs e closed → Closes (closing_line closed) rose t1 t2 → (closing_line closed ≡ [] → t2 ≡ t1)
-    → IfSome t2 (λ after. Wrote run (status_of closed) rose before after)
-wrote_any (BadLine number at) closed run rose before t1 t2 left found ends closes_as line kept =
-    ⊎_elim (λ same. wrote_closed (BadLine number at) closed run rose before t1 t2 left found ends same line kept)
-    (λ same. wrote_without_memory number at closed run rose before t1 t2 left found ends same line) closes_as
-wrote_any Done closed run rose before t1 t2 left found ends closes_as line kept = wrote_closed Done closed run rose before t1 t2 left found ends closes_as line kept
-wrote_any Usage closed run rose before t1 t2 left found ends closes_as line kept = wrote_closed Usage closed run rose before t1 t2 left found ends closes_as line kept
-wrote_any ReadFault closed run rose before t1 t2 left found ends closes_as line kept = wrote_closed ReadFault closed run rose before t1 t2 left found ends closes_as line kept
-wrote_any WriteFault closed run rose before t1 t2 left found ends closes_as line kept = wrote_closed WriteFault closed run rose before t1 t2 left found ends closes_as line kept
-wrote_any NoMemory closed run rose before t1 t2 left found ends closes_as line kept = wrote_closed NoMemory closed run rose before t1 t2 left found ends closes_as line kept
+closes_from : (line last : List ℕ) (first before now : ℕ) → before ≡ first → Closes line last before now → Closes line last first now
+closes_from line last first before now same closed = subst (λ n. Closes line last n now) same closed
 
-pub wrote : (told : Option Run) (e closed : Ending) (rose : Type 0) (t0 t1 t2 left : Option (List ℕ)) (found : List FoundEntry) → IfSome told (λ run. Ends e run t0 t1 left found) → ClosesAs e closed
-    → Closes (closing_line closed) rose t1 t2 → (closing_line closed ≡ [] → t2 ≡ t1) → IfSome told (λ run. IfSome t0 (λ before. IfSome t2 (λ after. Wrote run (status_of closed) rose before after)))
-wrote None e closed rose t0 t1 t2 left found ends closes_as line silent = tt
-wrote (Some run) e closed rose None t1 t2 left found ends closes_as line silent = tt
-wrote (Some run) e closed rose (Some before) t1 t2 left found ends closes_as line silent = wrote_any e closed run rose before t1 t2 left found ends closes_as line silent
+same_sink : (e : Ending) (before now : ℕ) → status_of e ≢ 5 → SinkFaults (Some e) before now → now ≡ before
+same_sink Done before now other faults = faults
+same_sink Usage before now other faults = faults
+same_sink (BadLine number at) before now other faults = faults
+same_sink ReadFault before now other faults = faults
+same_sink WriteFault before now other faults = absurd (other refl)
+same_sink NoMemory before now other faults = faults
 
--- the entropy that an answered run leaves
+other_ends : (e closed : Ending) → ClosesAs e closed → status_of closed ≢ 5 → status_of e ≢ 5
+other_ends (BadLine number at) closed closes_as other = λ five. absurd (omega (arith, five))
+other_ends Done closed closes_as other = λ five. absurd (omega (arith, five))
+other_ends Usage closed closes_as other = λ five. absurd (omega (arith, five))
+other_ends ReadFault closed closes_as other = λ five. absurd (omega (arith, five))
+other_ends WriteFault closed closes_as other = absurd (other (ap status_of closes_as))
+other_ends NoMemory closed closes_as other = λ five. absurd (omega (arith, five))
 
-left_by : (e : Ending) (run : Run) (replies entropy : List ℕ) (told : Option (List ℕ)) → EndsAs e run replies entropy → Leaves e told entropy → IsAnswered (status_of e) → told ≡ Some run.entropy
-left_by Done run replies entropy told ends leaves answered = leaves ∙ ap (λ x. Some x) (sym ends.entropy)
-left_by Usage run replies entropy told ends leaves answered = leaves ∙ ap (λ x. Some x) (sym ends.entropy)
-left_by (BadLine number at) run replies entropy told ends leaves answered = leaves ∙ ap (λ x. Some x) (sym ends.entropy)
-left_by ReadFault run replies entropy told ends leaves answered = absurd (read_fault_unanswered answered)
-left_by WriteFault run replies entropy told ends leaves answered = absurd (write_fault_unanswered answered)
-left_by NoMemory run replies entropy told ends leaves answered = absurd (no_memory_unanswered answered)
+silent_at_five : (closed : Ending) → status_of closed ≡ 5 → closing_line closed ≡ []
+silent_at_five WriteFault five = refl
+silent_at_five Done five = refl
+silent_at_five Usage five = absurd (omega (arith, five))
+silent_at_five (BadLine number at) five = absurd (omega (arith, five))
+silent_at_five ReadFault five = absurd (omega (arith, five))
+silent_at_five NoMemory five = absurd (omega (arith, five))
 
-answered_as : (e closed : Ending) → ClosesAs e closed → IsAnswered (status_of closed) → IsAnswered (status_of e)
-answered_as (BadLine number at) closed closes_as answered = inr (inr refl)
-answered_as Done closed closes_as answered = inl refl
-answered_as Usage closed closes_as answered = inr (inl refl)
-answered_as ReadFault closed closes_as answered = subst (λ x. IsAnswered (status_of x)) closes_as answered
-answered_as WriteFault closed closes_as answered = subst (λ x. IsAnswered (status_of x)) closes_as answered
-answered_as NoMemory closed closes_as answered = subst (λ x. IsAnswered (status_of x)) closes_as answered
-
-pub leaves_entropy : (told : Option Run) (e closed : Ending) (t0 t1 left : Option (List ℕ)) (found : List FoundEntry) → IfSome told (λ run. Ends e run t0 t1 left found) → ClosesAs e closed
-    → IfSome told (λ run. IsAnswered (status_of closed) → left ≡ Some run.entropy)
-leaves_entropy None e closed t0 t1 left found ends closes_as = tt
-leaves_entropy (Some run) e closed t0 t1 left found ends closes_as = λ answered. left_by e run ends.replies ends.entropy left ends.ends ends.leaves (answered_as e closed closes_as answered)
-
--- the failed takings of a run
-
-pub lists_failed : (told : Option Run) (e : Ending) (t0 t1 left : Option (List ℕ)) (found : List FoundEntry) → IfSome told (λ run. Ends e run t0 t1 left found) → IfSome told (λ run. run.failed ≡ found)
-lists_failed None e t0 t1 left found ends = tt
-lists_failed (Some run) e t0 t1 left found ends = ends.failed
-
--- a count that rose since a later moment rose since an earlier one
-Rose-since : (first before now : ℕ) → first ≤ before → Rose before now → Rose first now
-Rose-since first before now later rose = omega arith
-
-sink_faults_later : (e : Ending) (before now : ℕ) → SinkFaults (Some e) before now → before ≤ now
-sink_faults_later WriteFault before now h = h.0
-sink_faults_later Done before now h = omega arith
-sink_faults_later Usage before now h = omega arith
-sink_faults_later ReadFault before now h = omega arith
-sink_faults_later NoMemory before now h = omega arith
-sink_faults_later (BadLine number at) before now h = omega arith
-
-pub closes_since : (e : Ending) (line : List ℕ) (first before now : ℕ) (t1 t2 : Option (List ℕ)) → SinkFaults (Some e) first before → Closes line (Rose before now) t1 t2 → Closes line (Rose first now) t1 t2
-closes_since e line first before now t1 t2 sink closed = record {
-  part = closed.part;
-  taken = closed.taken;
-  front = closed.front;
-  whole = ⊎_elim (λ whole. inl whole) (λ rose. inr (Rose-since first before now (sink_faults_later e first before sink) rose)) closed.whole;
-}
-
--- a run that found no memory to begin
-
-no_memory_ends : (bytes : List ℕ) (w : World) (found : List FoundEntry) (t told : Option (List ℕ)) → w.failed ≡ found → Ends NoMemory (run_from 1 (lines bytes) [] w) t t told found
-no_memory_ends bytes w found t told failed = record {
-  replies = [];
-  entropy = [];
-  taken = Appends-nil t;
-  ends = ((run_from 1 (lines bytes) [] w).replies, refl);
-  leaves = tt;
-  failed = quiet_from 1 (lines bytes) [] w (λ m past. refl) ∙ failed;
-}
-
-no_memory_each : (script : Option (List ℕ)) (world : Option World) (found listed : List FoundEntry) (t told : Option (List ℕ)) → listed ≡ [] → IfSome world (λ w. w.failed ≡ found)
-    → IfSome script (λ bytes. IfSome world (λ w. Ends NoMemory (run_from 1 (lines bytes) listed w) t t told found))
-no_memory_each None world found listed t told none failed = tt
-no_memory_each (Some bytes) None found listed t told none failed = tt
-no_memory_each (Some bytes) (Some w) found listed t told none failed =
-    subst (λ (xs : List FoundEntry). Ends NoMemory (run_from 1 (lines bytes) xs w) t t told found) (sym none) (no_memory_ends bytes w found t told failed)
-
-pub no_memory_told : (script : Option (List ℕ)) (files : Option (List (List ℕ × List ℕ))) (entropy : Option (List ℕ)) (found : List FoundEntry) (t told : Option (List ℕ))
-    → IfSome script (λ bytes. IfSome (told_world no_keys files entropy found) (λ w. Ends NoMemory (run_from 1 (lines bytes) (since found found) w) t t told found))
-no_memory_told script files entropy found t told = no_memory_each script (told_world no_keys files entropy found) found (since found found) t told (since_none found) (failed_told no_keys files entropy found)
-
--- the status of an answered run
-
-status_by : (e : Ending) (run : Run) (replies entropy : List ℕ) → EndsAs e run replies entropy → IsAnswered (status_of e) → run.status ≡ status_of e
-status_by Done run replies entropy ends answered = ends.status
-status_by Usage run replies entropy ends answered = ends.status
-status_by (BadLine number at) run replies entropy ends answered = ends.status
-status_by ReadFault run replies entropy ends answered = absurd (read_fault_unanswered answered)
-status_by WriteFault run replies entropy ends answered = absurd (write_fault_unanswered answered)
-status_by NoMemory run replies entropy ends answered = absurd (no_memory_unanswered answered)
-
-closed_same : (e closed : Ending) → ClosesAs e closed → IsAnswered (status_of closed) → status_of closed ≡ status_of e
-closed_same (BadLine number at) closed closes_as answered =
-    ⊎_elim (λ same. ap status_of same) (λ none. absurd (no_memory_unanswered (subst (λ x. IsAnswered (status_of x)) none answered))) closes_as
-closed_same Done closed closes_as answered = ap status_of closes_as
-closed_same Usage closed closes_as answered = ap status_of closes_as
-closed_same ReadFault closed closes_as answered = ap status_of closes_as
-closed_same WriteFault closed closes_as answered = ap status_of closes_as
-closed_same NoMemory closed closes_as answered = ap status_of closes_as
-
-pub answered_told : (told : Option Run) (e closed : Ending) (t0 t1 left : Option (List ℕ)) (found : List FoundEntry) → IfSome told (λ run. Ends e run t0 t1 left found) → ClosesAs e closed
-    → IfSome told (λ run. IsAnswered (status_of closed) → run.status ≡ status_of closed)
-answered_told None e closed t0 t1 left found ends closes_as = tt
-answered_told (Some run) e closed t0 t1 left found ends closes_as = λ answered.
-    status_by e run ends.replies ends.entropy ends.ends (answered_as e closed closes_as answered) ∙ sym (closed_same e closed closes_as answered)
-
--- where no fault is counted and no line is bad, the run is answered or finds no memory
-
-completes : (e closed : Ending) (run : Run) (replies entropy : List ℕ) (s0 s1 o0 o1 o2 : ℕ) → EndsAs e run replies entropy → ClosesAs e closed → SourceFaults (Some e) s0 s1 → SinkFaults (Some e) o0 o1 → o1 ≤ o2
-    → run.status ≡ 0 → (Rose s0 s1 → ⊥) → (Rose o0 o2 → ⊥) → (status_of closed ≡ 0) ⊎ (status_of closed ≡ 12)
-completes Done closed run replies entropy s0 s1 o0 o1 o2 ends closes_as source sink later good read write = inl (ap status_of closes_as)
-completes Usage closed run replies entropy s0 s1 o0 o1 o2 ends closes_as source sink later good read write = absurd (let two : run.status ≡ 2 = ends.status in omega arith)
-completes (BadLine number at) closed run replies entropy s0 s1 o0 o1 o2 ends closes_as source sink later good read write =
-    absurd (let three : run.status ≡ 3 = ends.status in omega arith)
-completes ReadFault closed run replies entropy s0 s1 o0 o1 o2 ends closes_as source sink later good read write = absurd (read source.1)
-completes WriteFault closed run replies entropy s0 s1 o0 o1 o2 ends closes_as source sink later good read write = absurd (write (Rose-before o0 o1 o2 later sink.1)) where
-  Rose-before : (first before now : ℕ) → before ≤ now → Rose first before → Rose first now
-  Rose-before first before now later rose = omega arith
-completes NoMemory closed run replies entropy s0 s1 o0 o1 o2 ends closes_as source sink later good read write = inr (ap status_of closes_as)
-
-pub completes_told : (told : Option Run) (e closed : Ending) (t0 t1 left : Option (List ℕ)) (found : List FoundEntry) (s0 s1 o0 o1 o2 : ℕ) → IfSome told (λ run. Ends e run t0 t1 left found) → ClosesAs e closed
-    → SourceFaults (Some e) s0 s1 → SinkFaults (Some e) o0 o1 → o1 ≤ o2
-    → IfSome told (λ run. run.status ≡ 0 → (Rose s0 s1 → ⊥) → (Rose o0 o2 → ⊥) → (status_of closed ≡ 0) ⊎ (status_of closed ≡ 12))
-completes_told None e closed t0 t1 left found s0 s1 o0 o1 o2 ends closes_as source sink later = tt
-completes_told (Some run) e closed t0 t1 left found s0 s1 o0 o1 o2 ends closes_as source sink later = λ good read write.
-    completes e closed run ends.replies ends.entropy s0 s1 o0 o1 o2 ends.ends closes_as source sink later good read write
-
--- the whole output of an answered run, where no fault of the sink was counted
+-- all of an answered run's output
+not_five : (status : ℕ) → IsAnswered status → status ≢ 5
+not_five status answered five = ⊎_elim (λ e. omega (arith, e, five)) (λ other. ⊎_elim (λ e. omega (arith, e, five)) (λ e. omega (arith, e, five)) other) answered
 
 answered_line : (status : ℕ) (run : Run) → IsAnswered status → last_line status run ≡ run.last
-answered_line status run answered =
-    ⊎_elim (λ done. rw done refl) (λ other. ⊎_elim (λ usage. rw usage refl) (λ bad. rw bad refl) other) answered
+answered_line status run answered = ⊎_elim (λ done. rw done refl) (λ other. ⊎_elim (λ usage. rw usage refl) (λ bad. rw bad refl) other) answered
 
-wrote_exactly : (run : Run) (status : ℕ) (rose : Type 0) (before after : List ℕ) → Wrote run status rose before after → IsAnswered status → (rose → ⊥) → after ≡ before ++ output_of run
-wrote_exactly run status rose before after wrote answered kept =
-    let whole : wrote.last ≡ run.last = ⊎_elim (λ same. same ∙ answered_line status run answered) (λ h. absurd (kept h)) wrote.whole in
-    wrote.written ∙ append_assoc before wrote.replies wrote.last
-    ∙ ap (λ (xs : List ℕ). before ++ (xs ++ wrote.last)) (wrote.answered answered).1
-    ∙ ap (λ (xs : List ℕ). before ++ (run.replies ++ xs)) whole
+whole_output : (run : Run) (status : ℕ) (replies last : List ℕ) (made : List Taking) (before now : ℕ) → Came run status replies made → Closes (last_line status run) last before now → IsAnswered status → (Rose before now → ⊥)
+    → replies ++ last ≡ output_of run
+whole_output run status replies last made before now came closed answered kept =
+    let all : run.turns ≡ came.turns = came.whole ∙ ap (λ ts. came.turns ++ ts) (came.answered answered).1 ∙ append-nil came.turns in
+    let line : last ≡ run.last = ⊎_elim (λ whole. whole.0 ∙ answered_line status run answered) (λ cut. absurd (kept cut.1)) closed in
+    ap (λ xs. xs ++ last) (came.replied (not_five status answered) ∙ ap replies_of (sym all)) ∙ ap (λ xs. replies_of run.turns ++ xs) line
 
-pub exact_where_told : (told : Option Run) (status : ℕ) (rose : Type 0) (t0 t2 : Option (List ℕ)) → IfSome told (λ run. IfSome t0 (λ before. IfSome t2 (λ after. Wrote run status rose before after)))
-    → IfSome told (λ run. IfSome t0 (λ before. IfSome t2 (λ after. IsAnswered status → (rose → ⊥) → after ≡ before ++ output_of run)))
-exact_where_told None status rose t0 t2 written = tt
-exact_where_told (Some run) status rose None t2 written = tt
-exact_where_told (Some run) status rose (Some before) None written = tt
-exact_where_told (Some run) status rose (Some before) (Some after) written = wrote_exactly run status rose before after written
+-- ---- the takings of a run are those of a front of its turns
+
+made_both : (xs ys : List Turn) → made_in (xs ++ ys) ≡ made_in xs ++ made_in ys
+made_both xs ys = flat_map_both (λ turn. turn.takings) xs ys
+
+front_more : {A : Type 0} (xs ys zs : List A) → IsFront xs ys → IsFront xs (ys ++ zs)
+front_more xs ys zs front = (front.0 ++ zs, ap (λ ws. ws ++ zs) front.1 ∙ append_assoc xs front.0 zs)
+
+take_one : (later : List Turn) → later ≡ take 1 later ++ drop 1 later
+take_one [] = refl
+take_one (turn ∷ later) = refl
+
+front_of_run : (run : Run) (turns later : List Turn) (made : List Taking) → run.turns ≡ turns ++ later → IsFront made (made_in (turns ++ take 1 later)) → IsFront made (made_in run.turns)
+front_of_run run turns later made whole front =
+    let split : run.turns ≡ (turns ++ take 1 later) ++ drop 1 later = whole ∙ ap (λ ts. turns ++ ts) (take_one later) ∙ sym (append_assoc turns (take 1 later) (drop 1 later)) in
+    subst (λ (xs : List Taking). IsFront made xs) (sym (ap made_in split ∙ made_both (turns ++ take 1 later) (drop 1 later))) (front_more made (made_in (turns ++ take 1 later)) (made_in (drop 1 later)) front)
+
+front_of_turns : (turns later : List Turn) (made : List Taking) → made ≡ made_in turns → IsFront made (made_in (turns ++ take 1 later))
+front_of_turns turns later made same = (made_in (take 1 later), made_both turns (take 1 later) ∙ ap (λ xs. xs ++ made_in (take 1 later)) (sym same))
+
+made_front : (closed : Ending) (run : Run) (replies : List ℕ) (made : List Taking) → Came run (status_of closed) replies made → IsFront made (made_in run.turns)
+made_front WriteFault run replies made came =
+    front_of_run run came.turns came.later made came.whole ([], sym ((came.cut refl).3) ∙ sym (append-nil made))
+made_front NoMemory run replies made came =
+    let there = came.stopped refl in
+    front_of_run run came.turns came.later made came.whole
+    (there.2.0,
+      made_both came.turns (take 1 came.later) ∙ ap (λ xs. made_in came.turns ++ xs) there.2.1 ∙ sym (append_assoc (made_in came.turns) there.0 there.2.0) ∙ ap (λ xs. xs ++ there.2.0) (sym there.1))
+made_front Done run replies made came =
+    front_of_run run came.turns came.later made came.whole (front_of_turns came.turns came.later made (came.taken (λ e. absurd (omega (arith, e))) (λ e. absurd (omega (arith, e)))))
+made_front Usage run replies made came =
+    front_of_run run came.turns came.later made came.whole (front_of_turns came.turns came.later made (came.taken (λ e. absurd (omega (arith, e))) (λ e. absurd (omega (arith, e)))))
+made_front ReadFault run replies made came =
+    front_of_run run came.turns came.later made came.whole (front_of_turns came.turns came.later made (came.taken (λ e. absurd (omega (arith, e))) (λ e. absurd (omega (arith, e)))))
+made_front (BadLine number at) run replies made came =
+    front_of_run run came.turns came.later made came.whole (front_of_turns came.turns came.later made (came.taken (λ e. absurd (omega (arith, e))) (λ e. absurd (omega (arith, e)))))
+
+-- ---- where no fill is to fail and there are bytes for each
+
+enough_bytes : (number : ℕ) (left : List ℕ) (xs : List Bool) → 32 * length xs ≤ length left → FailWhereListedOrShort [] number left xs → AllByRecursion (λ fails. fails ≡ false) xs
+enough_bytes number left [] enough fails = tt
+enough_bytes number left (first ∷ xs) enough fails =
+    let none : first ≡ false = fails.0 ∙ long_enough left (omega (arith, enough)) in
+    let rest : FailWhereListedOrShort [] (one_more number) (drop 32 left) xs = subst (λ (b : Bool). FailWhereListedOrShort [] (one_more number) (if b then left else drop 32 left) xs) none fails.1 in
+    (none, enough_bytes (one_more number) (drop 32 left) xs (dropped left (length xs) (omega (arith, enough))) rest) where
+  long_enough : (left : List ℕ) → 32 ≤ length left → is_short left ≡ false
+  long_enough left long = grind (arith, nat_tests)
+  dropped : (left : List ℕ) (n : ℕ) → 32 * (n + 1) ≤ length left → 32 * n ≤ length (drop 32 left)
+  dropped left n long = omega (arith, length-drop 32 left, long)
+
+no_fills : (made : List Taking) → AllByRecursion (λ fails. fails ≡ false) (fills_of made) → AllByRecursion (λ entry. is_fill entry.what ≡ false) (failures made)
+no_fills [] none = tt
+no_fills (taking ∷ made) none = by_kind (no_fills made) (is_fill taking.entry.what) refl none taking.fails refl where
+  by_kind : (AllByRecursion (λ fails. fails ≡ false) (fills_of made) → AllByRecursion (λ entry. is_fill entry.what ≡ false) (failures made))
+      → (kind : Bool) → is_fill taking.entry.what ≡ kind → AllByRecursion (λ fails. fails ≡ false) (if kind then taking.fails ∷ fills_of made else fills_of made) → (fails : Bool) → taking.fails ≡ fails
+      → AllByRecursion (λ entry. is_fill entry.what ≡ false) (if fails then taking.entry ∷ failures made else failures made)
+  by_kind rest true fill none true same = absurd (let not : taking.fails ≡ false = none.0 in cc)
+  by_kind rest true fill none false same = rest none.1
+  by_kind rest false fill none true same = (fill, rest none)
+  by_kind rest false fill none false same = rest none
+
+fewer_fills : (made rest : List Taking) → length (fills_of made) ≤ length (fills_of (made ++ rest))
+fewer_fills made rest = let both : length (fills_of (made ++ rest)) ≡ length (fills_of made) + length (fills_of rest) = ap length (outcomes_both is_fill made rest) ∙ length-append (fills_of made) (fills_of rest) in omega (arith, both)
+
+enough_told : (made whole : List Taking) (old : Outer) (found : List FoundEntry) → IsFront made whole → found ≡ failures made
+    → IfSome old.fills.made (λ number. IfSome old.fills.failing (λ failing. IfSome old.entropy (λ left. FailWhereListedOrShort failing number left (fills_of made))))
+    → IfSome old.entropy (λ left. IfSome old.fills.made (λ number. old.fills.failing ≡ Some [] → 32 * length (fills_of whole) ≤ length left → AllByRecursion (λ entry. is_fill entry.what ≡ false) found))
+enough_told made whole old found front same fails = by_told old.fills.made old.fills.failing old.entropy fails where
+  by_told : (number : Option ℕ) (failing entropy : Option (List ℕ)) → IfSome number (λ number. IfSome failing (λ failing. IfSome entropy (λ left. FailWhereListedOrShort failing number left (fills_of made))))
+      → IfSome entropy (λ left. IfSome number (λ number. failing ≡ Some [] → 32 * length (fills_of whole) ≤ length left → AllByRecursion (λ entry. is_fill entry.what ≡ false) found))
+  by_told number failing None fails = tt
+  by_told None failing (Some left) fails = tt
+  by_told (Some number) None (Some left) fails = λ none enough. absurd (cc)
+  by_told (Some number) (Some failing) (Some left) fails = λ none enough.
+      let empty : failing ≡ [] = cc in
+      let fewer : length (fills_of made) ≤ length (fills_of whole) = subst (λ (xs : List Taking). length (fills_of made) ≤ length (fills_of xs)) (sym front.1) (fewer_fills made front.0) in
+      subst (λ (es : List FoundEntry). AllByRecursion (λ entry. is_fill entry.what ≡ false) es) (sym same)
+      (no_fills made (enough_bytes number left (fills_of made) (omega (arith, fewer, enough)) (subst (λ (l : List ℕ). FailWhereListedOrShort l number left (fills_of made)) empty fails)))
+
+-- ---- where no count rose, nothing is listed
+
+no_failure : (xs : List Bool) (before now : ℕ) → (Rose before now → ⊥) → raised (failed_count xs) before ≤ now → failed_count xs ≡ 0
+no_failure xs before now kept rose = by_count (failed_count xs) rose where
+  by_count : (n : ℕ) → raised n before ≤ now → n ≡ 0
+  by_count zero rose = refl
+  by_count (suc n) rose = absurd (kept (omega (arith, rose)))
+
+none_failures : (made : List Taking) → AllByRecursion (λ taking. is_fetch taking.entry.what || is_fill taking.entry.what ≡ true) made → failed_count (fetches_of made) ≡ 0 → failed_count (fills_of made) ≡ 0 → failures made ≡ []
+none_failures [] kinds fetches fills = refl
+none_failures (taking ∷ made) kinds fetches fills = by_kind (none_failures made kinds.1) (is_fetch taking.entry.what) (is_fill taking.entry.what) taking.fails kinds.0 fetches fills where
+  by_kind : (failed_count (fetches_of made) ≡ 0 → failed_count (fills_of made) ≡ 0 → failures made ≡ []) → (fetch fill fails : Bool) → fetch || fill ≡ true
+      → failed_count (if fetch then fails ∷ fetches_of made else fetches_of made) ≡ 0 → failed_count (if fill then fails ∷ fills_of made else fills_of made) ≡ 0 → (if fails then taking.entry ∷ failures made else failures made) ≡ []
+  by_kind rest true fill true some fetches fills = absurd (omega (arith, fetches))
+  by_kind rest true true false some fetches fills = rest fetches fills
+  by_kind rest true false false some fetches fills = rest fetches fills
+  by_kind rest false true true some fetches fills = absurd (omega (arith, fills))
+  by_kind rest false true false some fetches fills = rest fetches fills
+  by_kind rest false false fails some fetches fills = absurd (cc)
+
+pub none_listed : (here : ℕ → Type 0) (made : List Taking) (old new : Outer) → Takes here made old new → old.found ≡ [] → (Rose old.fetches.faults new.fetches.faults → ⊥) → (Rose old.fills.faults new.fills.faults → ⊥) → new.found ≡ []
+none_listed here made old new takes empty files entropy =
+    takes.found ∙ ap (λ es. es ++ failures made) empty
+    ∙ none_failures made takes.kinds (no_failure (fetches_of made) old.fetches.faults new.fetches.faults files takes.fetches.rose) (no_failure (fills_of made) old.fills.faults new.fills.faults entropy takes.fills.rose)
+
+-- ---- all together
+
+ran_told : (told : Option Run) (e closed : Ending) (t0 t1 t2 : Option (List ℕ)) (f0 f1 f2 : ℕ) (old new : Outer) (made : List Taking) → Takes (λ line. line ≤ 1048576) made old new → new.found ≡ failures made
+    → IfSome told (λ run. EndsSo e run made t0 t1) → ClosesAs e closed → SinkFaults (Some e) f0 f1 → WroteLast (closing_line closed) t1 t2 f1 f2 → (closing_line closed ≡ [] → (f2 ≡ f1) × (t2 ≡ t1))
+    → Ran told (status_of closed) (record { taken = t0; faults = f0 }) (record { taken = t2; faults = f2 }) old new
+ran_told None e closed t0 t1 t2 f0 f1 f2 old new made takes found ends closes_as sink wrote kept = record {
+  replies = [];
+  last = wrote.part;
+  made = made;
+  came = tt;
+  written = tt;
+  closed = tt;
+  silent = λ five. closes_nil (closing_line closed) wrote.part f1 f2 (silent_at_five closed five) wrote.closed;
+  takes = takes;
+  exact = tt;
+  enough = tt;
+}
+ran_told (Some run) e closed t0 t1 t2 f0 f1 f2 old new made takes found ends closes_as sink wrote kept =
+    let came : Came run (status_of closed) ends.replies made = came_closed e closed run ends.replies made closes_as ends.came in
+    let written : Took t0 t2 (ends.replies ++ wrote.part) =
+    written_whole e closed t0 t1 t2 ends.replies wrote.part closes_as ends.taken wrote.taken (λ none. (kept none).1) (λ none. closes_nil (closing_line closed) wrote.part f1 f2 none wrote.closed) in
+    let last_closed : status_of closed ≢ 5 → Closes (last_line (status_of closed) run) wrote.part f0 f2 = λ other.
+    subst (λ (line : List ℕ). Closes line wrote.part f0 f2) (sym (closed_line e closed run closes_as ends.last other))
+    (closes_from (closing_line closed) wrote.part f0 f1 f2 (same_sink e f0 f1 (other_ends e closed closes_as other) sink) wrote.closed) in
+    record {
+      replies = ends.replies;
+      last = wrote.part;
+      made = made;
+      came = came;
+      written = written;
+      closed = last_closed;
+      silent = λ five. closes_nil (closing_line closed) wrote.part f1 f2 (silent_at_five closed five) wrote.closed;
+      takes = takes;
+      exact = λ answered unfailed.
+          subst (λ (bytes : List ℕ). Took t0 t2 bytes)
+          (whole_output run (status_of closed) ends.replies wrote.part made f0 f2 came (last_closed (not_five (status_of closed) answered)) answered unfailed) written;
+      enough = enough_told made (made_in run.turns) old new.found (made_front closed run ends.replies made came) found takes.fill_fails;
+    }
+
+pub same_names : (a b d x y z : ℕ) → a ∷ b ∷ d ∷ [] ≡ x ∷ y ∷ z ∷ [] → (a ≡ x) × (b ≡ y) × (d ≡ z)
+same_names a b d x y z same = (cc, cc, cc)
+
+pub ran : {W : Type 0} (words : List W) (script : Option (List ℕ)) (e closed : Ending) (t0 t1 t2 : Option (List ℕ)) (f0 f1 f2 : ℕ) (old new : Outer) → old.found ≡ []
+    → RunsFrom (λ line. line ≤ 1048576) old new (λ found made. IfSome script (λ bytes. IfSome (told_world no_keys old) (λ w. EndsSo e (transcript words bytes found w) made t0 t1)))
+    → ClosesAs e closed → SinkFaults (Some e) f0 f1 → WroteLast (closing_line closed) t1 t2 f1 f2 → (closing_line closed ≡ [] → (f2 ≡ f1) × (t2 ≡ t1))
+    → Ran (told_transcript words script old new.found) (status_of closed) (record { taken = t0; faults = f0 }) (record { taken = t2; faults = f2 }) old new
+ran words script e closed t0 t1 t2 f0 f1 f2 old new empty runs closes_as sink wrote kept =
+    let found : new.found ≡ failures runs.made = runs.takes.found ∙ ap (λ es. es ++ failures runs.made) empty in
+    let agrees : Agrees new.found runs.made = subst (λ (es : List FoundEntry). Agrees es runs.made) (sym found) (agrees_failures runs.made runs.takes.order) in
+    ran_told (told_transcript words script old new.found) e closed t0 t1 t2 f0 f1 f2 old new runs.made runs.takes found
+    (told_run script (told_world no_keys old) (λ bytes w. transcript words bytes new.found w) (λ run. EndsSo e run runs.made t0 t1) (runs.said new.found agrees)) closes_as sink wrote kept

@@ -1,13 +1,14 @@
 -- The refusals for a fetch and for a seed that failed come of the kit alone.
-use Rattle.std.proofs.Common.{◌≡◌, ◌≢◌, ◌⊎◌, ⊎_elim, inl, inr, ℕ, ◌≤◌, Bool, true, false, List, [], ◌∷◌, length, nat_lt, Option, Some, None, Result, Ok, Err, is_some, refl, ap, sym, ◌∙◌, arith}
+use Rattle.std.proofs.Common.{◌≡◌, ◌≢◌, ◌⊎◌, ⊎_elim, inl, inr, ℕ, ◌≤◌, Bool, true, false, List, [], ◌∷◌, length, nat_lt, Option, Some, None, Result, Ok, Err, is_some, refl, ap, sym, ◌∙◌, subst, arith}
 use Rattle.std.proofs.lemmas.Bool.{cases_Bool}
 use Rattle.std.specs.Prelude.{unwrap_or, if◌then◌else◌}
-use Rattle.std.specs.List.{AllByRecursion, find}
+use Rattle.std.specs.List.{AllByRecursion}
+use Rattle.std.specs.Option.{option_map}
 use Rattle.std.specs.Result.{result_err}
 use Rattle.dataset_tree.specs.declared.kinds.Format.{Format}
 use Rattle.dataset_tree.specs.declared.kinds.Format.TheVariants.{Raw, Hex, Passphrase}
 use Rattle.dataset_tree.specs.declared.refusal.Refusal.{Refusal}
-use Rattle.dataset_tree.specs.declared.refusal.Refusal.TheVariants.{KeyFault, EntropyFault, KeyFileMissing, WrongKey, BadMaterial, BadOptions, Busy}
+use Rattle.dataset_tree.specs.declared.refusal.Refusal.TheVariants.{KeyFault, EntropyFault, KeyFileMissing, WrongKey, BadMaterial, BadOptions, Busy, NoSuch}
 use Rattle.dataset_tree.specs.declared.refusal.MaterialFault.TheVariants.{Short, Long}
 use Rattle.dataset_tree.specs.Refusal.{number_of, Gives}
 use Rattle.encryption_roots.specs.declared.props.Options.{Options}
@@ -23,21 +24,24 @@ use Rattle.encryption_roots.specs.declared.command.KeyCmd.{KeyCmd}
 use Rattle.encryption_roots.specs.declared.command.KeyCmd.TheVariants as commands
 use Rattle.encryption_roots.specs.ById.{at_id}
 use Rattle.dataset_tree.specs.Tree.{id_named}
+use Rattle.key_ciphers.specs.Ciphers.{ciphers, wrapping_key}
+use Rattle.key_machine.specs.Create.{makes_root, makes_encrypted, parent_row, parent_key, create_cases, create_key, told_encrypted, new_format, new_iters, new_salt}
+use Rattle.key_machine.specs.Fair.{WasAsked, SeedWasAsked, Suffices}
+use Rattle.key_machine.specs.Get.{get_cases}
+use Rattle.key_machine.specs.Load.{load_cases, told_load, told_load_of, told_load_with}
 use Rattle.key_machine.specs.Plain.{Plain}
-use Rattle.key_machine.specs.Needs.{wanted, makes_root, makes_encrypted, parent_row}
-use Rattle.key_machine.specs.Refusals.{refusal_of, first_of, create_cases, load_cases, unload_cases, get_cases}
-use Rattle.key_machine.specs.Step.{Reply, Done, Made, Text, Refused, Reaped, Skipped, step, carried_out, target, unless_refused, unless_faulty, unless_wrong, unloaded_from, owned_mappings}
-use Rattle.key_machine.specs.Users.{users_of, is_used}
-use Rattle.key_machine.specs.Told.{Told, nothing_told, told, told_create_with, told_load, told_load_of, told_load_with, key_of, create_key, parent_key, first_fault, seed_fault, seed_of, new_format, new_iters, new_salt}
-use Rattle.key_machine.specs.Fair.{WasAsked, Suffices}
-use Rattle.key_store.specs.Ciphers.{ciphers, wrapping_key}
+use Rattle.key_machine.specs.Refusals.{first_of, first_refusal, not_built}
+use Rattle.key_machine.specs.Reply.{Reply, Done, Made, Text, Refused, Reaped, Skipped, Stepped, unless_refused}
+use Rattle.key_machine.specs.Step.{refusal_of, wanted, told, material_refusal, target, carried_out, in_use, key_step}
+use Rattle.key_machine.specs.Told.{Told, nothing_told, key_of, seed_of}
+use Rattle.key_machine.specs.Unload.{InUse, unload_cases, unloaded}
 use Rattle.key_store.specs.declared.needs.Needs.{Needs}
 use Rattle.key_store.specs.Calls.{stepped, needs_of, needed, needed_unless}
 use Rattle.dataset_tree.specs.declared.refusal.Stop.{Stop}
 use Rattle.dataset_tree.specs.declared.refusal.Stop.TheVariants as stops
 use Rattle.edge_io.specs.Faults.{Rose}
 use Rattle.shell_run.specs.declared.command.Shown.{Shown}
-use Rattle.shell_run.specs.Takings.{HasWanted, shown_of}
+use Rattle.shell_run.specs.Answers.{HasWanted, Replies}
 
 -- a refusal for a taking that failed, by its number
 pub record IsTaking (why : Refusal) : Type 0 where
@@ -67,6 +71,9 @@ module _ (why : Refusal) (taking : IsTaking why) where
   high : (other : Refusal) → 14 ≤ number_of other → other ≢ why
   high other above = apart other why (number_of other) refl (inr above) taking
 
+  unbuilt_apart : Some not_built ≡ Some why → ⊥
+  unbuilt_apart found = high not_built (omega arith) (cc)
+
   state_apart : (p : Plain) (command : KeyCmd) → refusal_of p command ≡ Some why → ⊥
   state_apart p (commands.Create name opts) found =
       not_first why (create_cases p name opts)
@@ -75,101 +82,127 @@ module _ (why : Refusal) (taking : IsTaking why) where
       not_first why (load_cases p name check_only) (low _ (omega arith), (low _ (omega arith), (low _ (omega arith), (low _ (omega arith), tt)))) found
   state_apart p (commands.Unload name) found = not_first why (unload_cases p name) (low _ (omega arith), (low _ (omega arith), (low _ (omega arith), (low _ (omega arith), tt)))) found
   state_apart p (commands.Get name prop) found = not_first why (get_cases p name) (low _ (omega arith), tt) found
-  state_apart p (commands.Change name opts load_first) found = cc
-  state_apart p (commands.Inherit name load_first) found = cc
-  state_apart p (commands.Mount name) found = cc
-  state_apart p (commands.Unmount name) found = cc
-  state_apart p (commands.Clone from name) found = cc
-  state_apart p (commands.Receive name props wrapped block) found = cc
-  state_apart p (commands.Destroy name snaps) found = cc
+  state_apart p (commands.Change name opts load_first) found = unbuilt_apart found
+  state_apart p (commands.Inherit name load_first) found = unbuilt_apart found
+  state_apart p (commands.Mount name) found = unbuilt_apart found
+  state_apart p (commands.Unmount name) found = unbuilt_apart found
+  state_apart p (commands.Clone from name) found = unbuilt_apart found
+  state_apart p (commands.Receive name props wrapped block) found = unbuilt_apart found
+  state_apart p (commands.Destroy name snaps) found = unbuilt_apart found
 
   -- ---- what an accepted command answers
 
-  unloaded_apart : (p : Plain) (root : ℕ) (idle : List (ℕ × ℕ)) (busy : Option (ℕ × ℕ)) → (unloaded_from p root idle busy).reply ≡ Refused why → ⊥
-  unloaded_apart p root idle None refused = cc
-  unloaded_apart p root idle (Some mapping) refused = high (Busy mapping.0 (users_of p mapping)) (omega arith) (cc)
+  no_such_apart : Refused NoSuch ≡ Refused why → ⊥
+  no_such_apart refused = low NoSuch (omega arith) (cc)
 
-  carried_apart : (p : Plain) (command : KeyCmd) (facts : Told) (found : Option ℕ) → (carried_out p command facts found).reply ≡ Refused why → ⊥
-  carried_apart p (commands.Create name opts) facts found refused = cc
-  carried_apart p (commands.Load name check_only place) facts None refused = cc
-  carried_apart p (commands.Load name check_only place) facts (Some root) refused = cc
-  carried_apart p (commands.Unload name) facts None refused = cc
-  carried_apart p (commands.Unload name) facts (Some root) refused = unloaded_apart p root _ (find (λ mapping. is_used p mapping) (owned_mappings p root)) refused
-  carried_apart p (commands.Get name prop) facts None refused = cc
-  carried_apart p (commands.Get name prop) facts (Some id) refused = cc
-  carried_apart p (commands.Change name opts load_first) facts found refused = cc
-  carried_apart p (commands.Inherit name load_first) facts found refused = cc
-  carried_apart p (commands.Mount name) facts found refused = cc
-  carried_apart p (commands.Unmount name) facts found refused = cc
-  carried_apart p (commands.Clone from name) facts found refused = cc
-  carried_apart p (commands.Receive name props wrapped block) facts found refused = cc
-  carried_apart p (commands.Destroy name snaps) facts found refused = cc
+  not_built_apart : Refused not_built ≡ Refused why → ⊥
+  not_built_apart refused = high not_built (omega arith) (cc)
 
-  wrong_apart : (p : Plain) (command : KeyCmd) (facts : Told) (wrong : Option ℕ) → (unless_wrong p command facts wrong).reply ≡ Refused why → ⊥
-  wrong_apart p command facts None refused = carried_apart p command facts (target p command) refused
-  wrong_apart p command facts (Some dataset) refused = low (WrongKey dataset) (omega arith) (cc)
+  unloaded_apart : (p : Plain) (root : ℕ) (busy : Option InUse) → (unloaded p root busy).reply ≡ Refused why → ⊥
+  unloaded_apart p root None refused = cc
+  unloaded_apart p root (Some busy) refused = high (Busy busy.dataset busy.count) (omega arith) (cc)
 
-  fault_is : (p : Plain) (command : KeyCmd) (facts : Told) (fault : Option Refusal) → (unless_faulty p command facts fault).reply ≡ Refused why → fault ≡ Some why
-  fault_is p command facts None refused = absurd (wrong_apart p command facts facts.wrong refused)
-  fault_is p command facts (Some first) refused = cc
+  carried_apart : (p : Plain) (command : KeyCmd) (facts : Told) (busy : Option InUse) (at : Option ℕ) → (carried_out p command facts busy at).reply ≡ Refused why → ⊥
+  carried_apart p (commands.Create name opts) facts busy at refused = cc
+  carried_apart p (commands.Load name check_only place) facts busy None refused = no_such_apart refused
+  carried_apart p (commands.Load name check_only place) facts busy (Some root) refused = cc
+  carried_apart p (commands.Unload name) facts busy None refused = no_such_apart refused
+  carried_apart p (commands.Unload name) facts busy (Some root) refused = unloaded_apart p root busy refused
+  carried_apart p (commands.Get name prop) facts busy None refused = no_such_apart refused
+  carried_apart p (commands.Get name prop) facts busy (Some id) refused = cc
+  carried_apart p (commands.Change name opts load_first) facts busy at refused = not_built_apart refused
+  carried_apart p (commands.Inherit name load_first) facts busy at refused = not_built_apart refused
+  carried_apart p (commands.Mount name) facts busy at refused = not_built_apart refused
+  carried_apart p (commands.Unmount name) facts busy at refused = not_built_apart refused
+  carried_apart p (commands.Clone from name) facts busy at refused = not_built_apart refused
+  carried_apart p (commands.Receive name props wrapped block) facts busy at refused = not_built_apart refused
+  carried_apart p (commands.Destroy name snaps) facts busy at refused = not_built_apart refused
 
-  refused_is : (p : Plain) (command : KeyCmd) (facts : Told) (refusal : Option Refusal) → (refusal ≡ Some why → ⊥) → (unless_refused p command facts refusal).reply ≡ Refused why → facts.fault ≡ Some why
-  refused_is p command facts None other refused = fault_is p command facts facts.fault refused
-  refused_is p command facts (Some first) other refused = absurd (other (cc))
+  refused_by_either : (p : Plain) (refusal : Option Refusal) (done : Stepped) → (unless_refused p refusal done).reply ≡ Refused why → (refusal ≡ Some why) ⊎ (done.reply ≡ Refused why)
+  refused_by_either p None done refused = inr refused
+  refused_by_either p (Some first) done refused = inl (cc)
+
+  load_material_is : (fault : Option Refusal) (wrong : Option ℕ) → first_refusal (fault ∷ option_map (λ dataset. WrongKey dataset) wrong ∷ []) ≡ Some why → fault ≡ Some why
+  load_material_is (Some first) wrong found = found
+  load_material_is None (Some dataset) found = absurd (low (WrongKey dataset) (omega arith) (cc))
+  load_material_is None None found = absurd (cc)
+
+  create_material_is : (fault : Option Refusal) → first_refusal (fault ∷ []) ≡ Some why → fault ≡ Some why
+  create_material_is (Some first) found = found
+  create_material_is None found = absurd (cc)
+
+  material_is : (p : Plain) (command : KeyCmd) (facts : Told) → material_refusal p command facts ≡ Some why → facts.fault ≡ Some why
+  material_is p (commands.Create name opts) facts found = create_material_is facts.fault found
+  material_is p (commands.Load name check_only place) facts found = load_material_is facts.fault facts.wrong found
+  material_is p (commands.Unload name) facts found = absurd (cc)
+  material_is p (commands.Get name prop) facts found = absurd (cc)
+  material_is p (commands.Change name opts load_first) facts found = absurd (cc)
+  material_is p (commands.Inherit name load_first) facts found = absurd (cc)
+  material_is p (commands.Mount name) facts found = absurd (cc)
+  material_is p (commands.Unmount name) facts found = absurd (cc)
+  material_is p (commands.Clone from name) facts found = absurd (cc)
+  material_is p (commands.Receive name props wrapped block) facts found = absurd (cc)
+  material_is p (commands.Destroy name snaps) facts found = absurd (cc)
 
   -- a step that answers it was told it
-  told_fault : (p : Plain) (command : KeyCmd) (facts : Told) → (step p command facts).reply ≡ Refused why → facts.fault ≡ Some why
-  told_fault p command facts refused = refused_is p command facts (refusal_of p command) (state_apart p command) refused
+  told_fault : (p : Plain) (command : KeyCmd) (facts : Told) → (key_step p command facts).reply ≡ Refused why → facts.fault ≡ Some why
+  told_fault p command facts refused =
+      let done : Stepped = carried_out p command facts (in_use p command) (target p command) in
+      ⊎_elim (λ state. absurd (state_apart p command state))
+      (λ later. ⊎_elim (λ material. material_is p command facts material) (λ carried. absurd (carried_apart p command facts (in_use p command) (target p command) carried))
+      (refused_by_either p (material_refusal p command facts) done later))
+      (refused_by_either p (refusal_of p command) (unless_refused p (material_refusal p command facts) done) refused)
 
   -- ---- what a kit tells
 
-  wrapping_apart : (format : Format) (material : List ℕ) (iters salt : ℕ) → result_err (wrapping_key format material iters salt) ≡ Some why → ⊥
+  wrapping_apart : (format : Format) (material : List ℕ) (iters salt : ℕ) → wrapping_key format material iters salt ≡ Err why → ⊥
   wrapping_apart Raw material iters salt told =
-      ⊎_elim (λ (short : nat_lt (length material) 32 ≡ true). low (BadMaterial Short) (omega arith) (let here : Some (BadMaterial Short) ≡ Some why = rw short at told in cc))
+      ⊎_elim (λ (short : nat_lt (length material) 32 ≡ true). low (BadMaterial Short) (omega arith) (let here : Err (BadMaterial Short) ≡ Err why = rw short at told in cc))
       (λ (enough : nat_lt (length material) 32 ≡ false).
-      ⊎_elim (λ (long : nat_lt 32 (length material) ≡ true). low (BadMaterial Long) (omega arith) (let here : Some (BadMaterial Long) ≡ Some why = rw (enough, long) at told in cc))
-      (λ (fits : nat_lt 32 (length material) ≡ false). let none : None ≡ Some why = rw (enough, fits) at told in cc) (cases_Bool (nat_lt 32 (length material)))) (cases_Bool (nat_lt (length material) 32))
+      ⊎_elim (λ (long : nat_lt 32 (length material) ≡ true). low (BadMaterial Long) (omega arith) (let here : Err (BadMaterial Long) ≡ Err why = rw (enough, long) at told in cc))
+      (λ (fits : nat_lt 32 (length material) ≡ false). let none : Ok material ≡ Err why = rw (enough, fits) at told in cc) (cases_Bool (nat_lt 32 (length material)))) (cases_Bool (nat_lt (length material) 32))
   wrapping_apart Hex material iters salt told = high BadOptions (omega arith) (cc)
   wrapping_apart Passphrase material iters salt told = high BadOptions (omega arith) (cc)
 
   -- a fetched key's fault is that of its fetch
-  key_fault_is : (format : Format) (iters salt : ℕ) (fetched : Fetched) → WasAsked fetched → result_err (key_of ciphers format iters salt fetched) ≡ Some why → (fetched ≡ fetches.Fault) × (why ≡ KeyFault)
+  key_fault_is : (format : Format) (iters salt : ℕ) (fetched : Fetched) → WasAsked fetched → key_of ciphers format iters salt fetched ≡ Err why → (fetched ≡ fetches.Fault) × (why ≡ KeyFault)
   key_fault_is format iters salt (fetches.Got material) asked fault = absurd (wrapping_apart format material iters salt fault)
   key_fault_is format iters salt fetches.Missing asked fault = absurd (low KeyFileMissing (omega arith) (cc))
   key_fault_is format iters salt fetches.Fault asked fault = (refl, cc)
   key_fault_is format iters salt fetches.NotAsked asked fault = absurd asked
 
-  seed_fault_is : (seed : SeedGot) → seed_fault seed ≡ Some why → (seed ≡ seeds.Fault) × (why ≡ EntropyFault)
-  seed_fault_is seeds.NotAsked fault = absurd (cc)
-  seed_fault_is (seeds.Got seed) fault = absurd (cc)
-  seed_fault_is seeds.Fault fault = (refl, cc)
+  seed_fault_is : (seed : SeedGot) → SeedWasAsked seed → seed_of seed ≡ Err why → (seed ≡ seeds.Fault) × (why ≡ EntropyFault)
+  seed_fault_is seeds.NotAsked asked fault = absurd asked
+  seed_fault_is (seeds.Got seed) asked fault = absurd (cc)
+  seed_fault_is seeds.Fault asked fault = (refl, cc)
 
-  first_is : (first later : Option Refusal) → first_fault first later ≡ Some why → (first ≡ Some why) ⊎ (later ≡ Some why)
-  first_is (Some other) later fault = inl fault
-  first_is None later fault = inr fault
-
-  create_key_is : (root : Bool) (key : Result (List ℕ) Refusal) (own : List ℕ) (fetched : Fetched) → (root ≡ true → result_err key ≡ Some why → (fetched ≡ fetches.Fault) × (why ≡ KeyFault))
-      → result_err (if root then key else Ok own) ≡ Some why → (fetched ≡ fetches.Fault) × (why ≡ KeyFault)
+  create_key_is : (root : Bool) (key : Result (List ℕ) Refusal) (own : List ℕ) (fetched : Fetched) → (root ≡ true → key ≡ Err why → (fetched ≡ fetches.Fault) × (why ≡ KeyFault))
+      → (if root then key else Ok own) ≡ Err why → (fetched ≡ fetches.Fault) × (why ≡ KeyFault)
   create_key_is true key own fetched of_key fault = of_key refl fault
   create_key_is false key own fetched of_key fault = absurd (cc)
 
-  encrypted_is : (encrypted : Bool) (facts : Told) (kit : LineKit) → (facts.fault ≡ Some why → Failed why kit) → (if encrypted then facts else nothing_told).fault ≡ Some why → Failed why kit
-  encrypted_is true facts kit failed fault = failed fault
+  encrypted_fault : (p : Plain) (name : List ℕ) (opts : Options) (key seed : Result (List ℕ) Refusal) → (told_encrypted ciphers p name opts key seed).fault ≡ Some why → (key ≡ Err why) ⊎ (seed ≡ Err why)
+  encrypted_fault p name opts (Err first) seed fault = inl (cc)
+  encrypted_fault p name opts (Ok key) (Err first) fault = inr (cc)
+  encrypted_fault p name opts (Ok key) (Ok seed) fault = absurd (cc)
+
+  encrypted_is : (encrypted : Bool) (facts : Told) (kit : LineKit) → (encrypted ≡ true → facts.fault ≡ Some why → Failed why kit) → (if encrypted then facts else nothing_told).fault ≡ Some why → Failed why kit
+  encrypted_is true facts kit failed fault = failed refl fault
   encrypted_is false facts kit failed fault = absurd (cc)
 
-  create_fault : (p : Plain) (name : List ℕ) (opts : Options) (kit : LineKit) → (makes_root opts ≡ true → WasAsked kit.new_key) → (told ciphers p (commands.Create name opts) kit).fault ≡ Some why → Failed why kit
-  create_fault p name opts kit asked fault =
-      let seed : List ℕ = unwrap_or (seed_of kit.seed) [] in
-      let key : Result (List ℕ) Refusal = create_key ciphers p name opts kit seed in
-      encrypted_is (makes_encrypted p name opts) (told_create_with ciphers p name opts kit seed key) kit
-      (λ first. ⊎_elim
-      (λ by_key. inl (create_key_is (makes_root opts) (key_of ciphers (new_format opts) (new_iters opts) (new_salt ciphers opts seed) kit.new_key) (parent_key p (parent_row p name)) kit.new_key
-      (λ root. key_fault_is (new_format opts) (new_iters opts) (new_salt ciphers opts seed) kit.new_key (asked root)) by_key))
-      (λ by_seed. inr (seed_fault_is kit.seed by_seed)) (first_is (result_err key) (seed_fault kit.seed) first)) fault
+  create_fault : (p : Plain) (name : List ℕ) (opts : Options) (kit : LineKit) → (makes_root opts ≡ true → WasAsked kit.new_key) → (makes_encrypted p name opts ≡ true → SeedWasAsked kit.seed)
+      → (told ciphers p (commands.Create name opts) kit).fault ≡ Some why → Failed why kit
+  create_fault p name opts kit asked seed_asked fault =
+      let key : Result (List ℕ) Refusal = create_key ciphers p name opts kit in
+      encrypted_is (makes_encrypted p name opts) (told_encrypted ciphers p name opts key (seed_of kit.seed)) kit
+      (λ encrypted first. ⊎_elim
+      (λ by_key. inl (create_key_is (makes_root opts) (key_of ciphers (new_format opts) (new_iters opts) (new_salt ciphers opts (seed_of kit.seed)) kit.new_key) (parent_key p (parent_row p name)) kit.new_key
+      (λ root. key_fault_is (new_format opts) (new_iters opts) (new_salt ciphers opts (seed_of kit.seed)) kit.new_key (asked root)) by_key))
+      (λ by_seed. inr (seed_fault_is kit.seed (seed_asked encrypted) by_seed)) (encrypted_fault p name opts key (seed_of kit.seed) first)) fault
 
-  load_with_fault : (p : Plain) (root : ℕ) (key : Result (List ℕ) Refusal) → (told_load_with ciphers p root key).fault ≡ Some why → result_err key ≡ Some why
+  load_with_fault : (p : Plain) (root : ℕ) (key : Result (List ℕ) Refusal) → (told_load_with ciphers p root key).fault ≡ Some why → key ≡ Err why
   load_with_fault p root (Ok key) fault = absurd (cc)
-  load_with_fault p root (Err other) fault = fault
+  load_with_fault p root (Err other) fault = cc
 
   load_of_fault : (p : Plain) (kit : LineKit) (root : ℕ) (props : Option Props) → WasAsked kit.new_key → (told_load_of ciphers p kit root props).fault ≡ Some why → Failed why kit
   load_of_fault p kit root None asked fault = absurd (cc)
@@ -182,7 +215,7 @@ module _ (why : Refusal) (taking : IsTaking why) where
 
   kit_fault : (p : Plain) (command : KeyCmd) (kit : LineKit) → Suffices p command kit → (told ciphers p command kit).fault ≡ Some why → Failed why kit
   kit_fault p (commands.Create name opts) kit suffices fault =
-      create_fault p name opts kit (λ root. suffices.new_key (ap (λ b. is_some (let place : Option Location = if b then Some (unwrap_or opts.place Prompt) else None in place)) root)) fault
+      create_fault p name opts kit (λ root. suffices.new_key (ap (λ b. is_some (let place : Option Location = if b then Some (unwrap_or opts.place Prompt) else None in place)) root)) (λ encrypted. suffices.seed encrypted) fault
   kit_fault p (commands.Load name check_only place) kit suffices fault = load_fault p kit (id_named name p.tree.rows) (suffices.new_key refl) fault
   kit_fault p (commands.Unload name) kit suffices fault = absurd (cc)
   kit_fault p (commands.Get name prop) kit suffices fault = absurd (cc)
@@ -199,21 +232,8 @@ module _ (why : Refusal) (taking : IsTaking why) where
 
 -- ---- a command that is refused by one of them
 
-refused_by : (reply : Reply) (why : Refusal) → shown_of reply ≡ Err why → reply ≡ Refused why
-refused_by Done why shown = absurd (cc)
-refused_by (Made id) why shown = absurd (cc)
-refused_by (Text text) why shown = absurd (cc)
-refused_by (Refused other) why shown = let same : other ≡ why = cc in ap (λ w. Refused w) same
-refused_by (Reaped dataset dropped) why shown = absurd (cc)
-refused_by Skipped why shown = absurd (cc)
-
-gives_refused : (result : Result Shown Stop) (outcome : Result Shown Refusal) (why : Refusal) → result ≡ Err (stops.Refused why) → Gives result outcome → outcome ≡ Err why
-gives_refused (Ok shown) outcome why same gives = absurd (cc)
-gives_refused (Err (stops.Refused other)) outcome why same gives =
-    let stop : (let s : Stop = stops.Refused other in s) ≡ stops.Refused why = cc in
-    let inner : other ≡ why = cc in
-    gives ∙ ap (λ w. let r : Result Shown Refusal = Err w in r) inner
-gives_refused (Err stops.NoMemory) outcome why same gives = absurd (let stop : (let s : Stop = stops.NoMemory in s) ≡ stops.Refused why = cc in cc)
+replies_refused : (result : Result Shown Stop) (reply : Reply) (why : Refusal) → result ≡ Err (stops.Refused why) → Replies result reply → reply ≡ Refused why
+replies_refused result reply why same replies = let refused : Replies (Err (stops.Refused why)) reply = subst (λ (r : Result Shown Stop). Replies r reply) same replies in refused
 
 wants_by : (p : Plain) (command : KeyCmd) (needs : Needs) (refusal : Option Refusal) → needed_unless p command refusal ≡ Ok needs → needs_of (wanted p command) ≡ needs
 wants_by p command needs None known = cc
@@ -229,9 +249,9 @@ suffices_by p command needs kit known has =
     }
 
 pub executed_fault : (why : Refusal) → IsTaking why → (p : Plain) (command : KeyCmd) (needs : Needs) (kit : LineKit) (result : Result Shown Stop) → needed p command ≡ Ok needs → HasWanted needs kit
-    → Gives result (shown_of (stepped p command kit).reply) → result ≡ Err (stops.Refused why) → Failed why kit
-executed_fault why taking p command needs kit result known has gives refused =
-    step_fault why taking p command kit (suffices_by p command needs kit known has) (refused_by (stepped p command kit).reply why (gives_refused result (shown_of (stepped p command kit).reply) why refused gives))
+    → Replies result (stepped p command kit).reply → result ≡ Err (stops.Refused why) → Failed why kit
+executed_fault why taking p command needs kit result known has replies refused =
+    step_fault why taking p command kit (suffices_by p command needs kit known has) (replies_refused result (stepped p command kit).reply why refused replies)
 
 needed_apart : (why : Refusal) (p : Plain) (command : KeyCmd) (refusal : Option Refusal) → needed_unless p command refusal ≡ Err why → refusal ≡ Some why
 needed_apart why p command None known = absurd (cc)

@@ -1,5 +1,6 @@
 pub mod WritingLemmas
 pub mod TakingLemmas
+pub mod KitLemmas
 pub mod CommandLemmas
 pub mod FaultLemmas
 pub mod RunLemmas

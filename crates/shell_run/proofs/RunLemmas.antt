@@ -1,32 +1,34 @@
 -- One line of a run, and many.
-use Rattle.std.proofs.Common.{◌≡◌, ℕ, zero, suc, ◌+◌, ◌<◌, ◌≤◌, nat_lt, true, false, List, [], ◌∷◌, ◌++◌, length, drop, Option, Some, None, Result, Ok, Err, IfSome, IsSomeAnd, OnOk, refl, ap, sym, ◌∙◌, subst, append_assoc, arith, inl, inr, ⊎_elim}
+use Rattle.std.proofs.Common.{◌≡◌, ◌≢◌, ℕ, zero, suc, ◌+◌, ◌<◌, ◌≤◌, nat_lt, true, false, List, [], ◌∷◌, ◌++◌, length, take, drop, Option, Some, None, Result, Ok, Err, IfSome, IsSomeAnd, OnOk, OnErr, refl, ap, sym, ◌∙◌, subst, append_assoc, arith, inl, inr, ⊎_elim}
 use Rattle.std.specs.Io.KnownBytes.{Appends}
-use Rattle.std.specs.List.{AllByRecursion}
-use Rattle.std.proofs.lemmas.Bool.{cases_Bool}
+use Rattle.std.specs.List.{AllByRecursion, flat_map}
 use Rattle.std.proofs.lemmas.Bool.Decides.{nat_tests}
-use Rattle.key_machine.specs.Plain.{Plain}
+use Rattle.std.proofs.lemmas.List.{append-nil}
+use Rattle.key_machine.specs.Plain.{Plain, no_keys}
 use Rattle.edge_io.specs.Faults.{HasCause, Rose}
+use Rattle.edge_io.specs.Told.{unread}
 use Rattle.edge_io.specs.Lines.{lines, first_line, next_line, rest_of}
 use Rattle.edge_io.proofs.LinesLemmas.{lines_next}
 use Rattle.edge_io.specs.declared.errors.Failed.{Failed}
 use Rattle.shell_lines.specs.declared.line.Line.{Line}
+use Rattle.shell_lines.specs.declared.line.LineStop.TheVariants as line_stops
 use Rattle.shell_lines.specs.Grammar.{line_of}
 use Rattle.shell_run.specs.declared.ending.Ending.{Ending}
 use Rattle.shell_run.specs.declared.ending.Ending.TheVariants.{Done, Usage, BadLine, ReadFault, WriteFault, NoMemory}
 use Rattle.shell_run.specs.declared.found.FoundEntry.{FoundEntry}
-use Rattle.shell_run.specs.Answers.{AnswersTo, listed_after}
-use Rattle.shell_run.specs.Endings.{EndsAs, IsEnd, Leaves}
-use Rattle.shell_run.specs.Failing.{Failing, failing, since, failing_since}
-use Rattle.shell_run.specs.Progress.{Goes, Ends, Taken, TookFront, Closes, TakesLine, TakesNone, Replied, LineRan, AgreesAt, IsSilentFrom, entropy_of}
-use Rattle.shell_run.specs.Takings.{Lists}
+use Rattle.shell_run.specs.Answers.{Acts, Agrees, AnswersTo, HasAnswer, HasTurn, WhereTold, answer_takings}
+use Rattle.shell_run.specs.Endings.{EndsInLine, SourceFaults, status_of, closing_line}
+use Rattle.shell_run.specs.Outer.{Outer, Takes}
+use Rattle.shell_run.specs.Progress.{Goes as GoesOn, Taken, Ends as EndsSo, TookCut, WroteLast, TakesLine, TakesNone, HasReplied, HasCut, Replied, LineRan, RunsFrom, StaysTold}
+use Rattle.shell_run.specs.Ran.{IsAnswered, IsFront, IsCut, Came, Closes, Took}
+use Rattle.shell_run.specs.Takings.{Taking, has_entry, entries_of}
 use Rattle.shell_run.specs.Texts.{bad_line}
-use Rattle.shell_run.specs.Transcript.{World, told_world, Run, over, preceded, goes_on, checked, run_within, run_from, answer_of}
-use Rattle.shell_run.specs.Written.{IsFront}
-use Rattle.shell_run.proofs.CommandLemmas.{quiet_line}
-use Rattle.shell_run.proofs.TakingLemmas.{since_both, since_none, failing_first, failing_second, failing_none, all_weaker}
+use Rattle.shell_run.specs.Transcript.{World, told_world, Run, Turn, Answer, Goes, Ends, preceded, replies_of, made_in, goes_on, checked, answer_if, run_within, run_from, transcript}
+use Rattle.shell_run.proofs.CommandLemmas.{front_nil, on_told}
+use Rattle.shell_run.proofs.TakingLemmas.{agrees_own, all_first, all_second, takes_none, takes_more, takes_weaker}
 use Rattle.shell_run.proofs.WritingLemmas.{append_nil, Appends-nil, Appends-append, Took-after, Took-from_Appends}
 
--- taking a line
+-- ---- taking a line
 
 pub takes_line : (told left : Option (List ℕ)) (line : List ℕ) → IfSome told (λ bytes. Some line ≡ next_line bytes) → IfSome told (λ bytes. left ≡ Some (rest_of bytes))
     → IfSome told (λ bytes. TakesLine line bytes left)
@@ -37,269 +39,170 @@ too_long : (bytes : List ℕ) → 65536 < length (first_line bytes) → (line : 
 too_long [] long = absurd (omega arith)
 too_long (byte ∷ bytes) long = (first_line (byte ∷ bytes), lines (rest_of (byte ∷ bytes)), lines_next (byte ∷ bytes), long)
 
-pub takes_none : (told left : Option (List ℕ)) (number at : ℕ) → at ≡ 65536 → IfSome told (λ bytes. 65536 < length (first_line bytes))
+pub takes_none_long : (told left : Option (List ℕ)) (number at : ℕ) → at ≡ 65536 → IfSome told (λ bytes. 65536 < length (first_line bytes))
     → IfSome told (λ bytes. TakesNone (BadLine number at) number bytes left)
-takes_none None left number at e long = tt
-takes_none (Some bytes) left number at e long = let found = too_long bytes long in (refl, e, found.0, found.1, found.2, found.3)
+takes_none_long None left number at e long = tt
+takes_none_long (Some bytes) left number at e long = let found = too_long bytes long in (refl, e, found.0, found.1, found.2, found.3)
 
--- writing the closing line
+-- where a line was taken, what is left is told
+pub line_stays : (r : Option Ending) (told left : Option (List ℕ)) (line : List ℕ) → IfSome told (λ bytes. TakesLine line bytes left) → StaysTold r told left
+line_stays (Some e) told left line takes = tt
+line_stays None None left line takes = tt
+line_stays None (Some bytes) None line takes = absurd takes
+line_stays None (Some bytes) (Some rest) line takes = tt
 
-pub closes : (r : Result (Unit {0}) Failed) (line : List ℕ) (t0 t1 : Option (List ℕ)) (before now : ℕ) → OnOk r (Appends t0 t1 line) → TookFront line t0 t1 → HasCause before now r
-    → Closes line (Rose before now) t0 t1
-closes (Ok done) line t0 t1 before now written part cause = record { part = line; taken = Took-from_Appends t0 t1 line written; front = ([], append_nil line); whole = inl refl }
-closes (Err failed) line t0 t1 before now written part cause = record { part = part.part; taken = part.taken; front = part.front; whole = inr cause.failed }
+pub stays_none : (told : Option (List ℕ)) → StaysTold None told told
+stays_none None = tt
+stays_none (Some bytes) = tt
 
--- answering a line
+pub stays_more : (a b c : Option (List ℕ)) → StaysTold None a b → StaysTold None b c → StaysTold None a c
+stays_more None b c p q = tt
+stays_more (Some bytes) None c p q = absurd p
+stays_more (Some bytes) (Some rest) c p q = q
 
-pub replied_all : (n : ℕ) (fails : Failing) (o : Result Line ℕ) (old new : Option World) (reply : List ℕ) (t0 t1 : Option (List ℕ)) → AnswersTo n fails o old new [] reply (Ok tt) → Appends t0 t1 reply
-    → Replied None n fails o old new t0 t1
-replied_all n fails (Ok line) None new reply t0 t1 answered written = tt
-replied_all n fails (Ok line) (Some w) new reply t0 t1 answered written = let P : List ℕ → Type 0 = λ bytes. Appends t0 t1 bytes in (answered.0, subst P answered.1 written)
-replied_all n fails (Err at) old new reply t0 t1 answered written = absurd answered
+pub all_read : (told now left : Option (List ℕ)) → StaysTold None told now → IfSome now (λ bytes. left ≡ Some []) → IfSome told (λ bytes. left ≡ Some [])
+all_read None now left stays all = tt
+all_read (Some bytes) None left stays all = absurd stays
+all_read (Some bytes) (Some rest) left stays all = all
 
-pub replied_part : (n : ℕ) (fails : Failing) (o : Result Line ℕ) (old new : Option World) (reply : List ℕ) (t0 t1 : Option (List ℕ)) → AnswersTo n fails o old new [] reply (Ok tt) → TookFront reply t0 t1
-    → Replied (Some WriteFault) n fails o old new t0 t1
-replied_part n fails (Ok line) None new reply t0 t1 answered part = tt
-replied_part n fails (Ok line) (Some w) new reply t0 t1 answered part = let P : List ℕ → Type 0 = λ bytes. TookFront bytes t0 t1 in subst P answered.1 part
-replied_part n fails (Err at) old new reply t0 t1 answered part = absurd answered
+-- ---- writing the closing line
 
--- a list that says nothing of the lines to come lists nothing more
+pub closes : (r : Result (Unit {0}) Failed) (line : List ℕ) (t0 t1 : Option (List ℕ)) (before now : ℕ) → OnOk r (Appends t0 t1 line) → OnErr r (TookCut line t0 t1) → HasCause before now r → WroteLast line t0 t1 before now
+closes (Ok done) line t0 t1 before now written part cause = record { part = line; taken = Took-from_Appends t0 t1 line written; closed = inl (refl, cause.kept) }
+closes (Err failed) line t0 t1 before now written part cause = record { part = part.part; taken = part.taken; closed = inr (part.is_cut, cause.failed) }
 
-silent_here : (n : ℕ) (found : List FoundEntry) → failing n found ≡ failing n [] → IsSilentFrom (n + 1) found → IsSilentFrom n found
-silent_here n found here later m past =
-    ⊎_elim (λ (more : nat_lt n m ≡ true). later m (grind (arith, nat_tests)))
-    (λ (no_more : nat_lt n m ≡ false). let same : n ≡ m = grind (arith, nat_tests) in subst (λ k. failing k found ≡ failing k []) same here) (cases_Bool (nat_lt n m))
+-- ---- answering a line
 
-quiet_turn : (n : ℕ) (found : List FoundEntry) (w : World) (line : Line) → failing n found ≡ failing n [] → (answer_of n (failing n found) w line).world.failed ≡ w.failed
-quiet_turn n found w line silent = ap (λ (fails : Failing). (answer_of n fails w line).world.failed) silent ∙ quiet_line n n w line
+has_replied : (answer : Answer) (new : Option World) (reply : List ℕ) (t0 t1 : Option (List ℕ)) (made : List Taking) → HasAnswer (Ok tt) answer new [] reply made → Appends t0 t1 reply → HasReplied answer new t0 t1 made
+has_replied (Goes turn) new reply t0 t1 made answered written = (answered.0.0, subst (λ (bytes : List ℕ). Appends t0 t1 bytes) answered.0.1 written, answered.0.2, answered.1)
+has_replied (Ends number at w takings) new reply t0 t1 made answered written = absurd answered
 
-failed_on : (n : ℕ) (found : List FoundEntry) (w : World) (o : Result Line ℕ) (later : List (List ℕ)) (rest : World → ℕ → Run) → ((v : World) → (rest v 1).failed ≡ v.failed)
-    → (goes_on n found w o later rest).failed ≡ listed_after n (failing n found) w o
-failed_on n found w (Ok line) later rest quiet = quiet (answer_of n (failing n found) w line).world
-failed_on n found w (Err at) later rest quiet = refl
+has_cut : (answer : Answer) (new : Option World) (reply : List ℕ) (t0 t1 : Option (List ℕ)) (made : List Taking) → HasAnswer (Ok tt) answer new [] reply made → TookCut reply t0 t1 → HasCut answer t0 t1 made
+has_cut (Goes turn) new reply t0 t1 made answered part = (subst (λ (bytes : List ℕ). TookCut bytes t0 t1) answered.0.1 part, answered.0.2)
+has_cut (Ends number at w takings) new reply t0 t1 made answered part = absurd answered
 
-quiet_outcome : (n : ℕ) (found : List FoundEntry) (w : World) (o : Result Line ℕ) → failing n found ≡ failing n [] → listed_after n (failing n found) w o ≡ w.failed
-quiet_outcome n found w (Ok line) silent = quiet_turn n found w line silent
-quiet_outcome n found w (Err at) silent = refl
-
-quiet_within : (bound n : ℕ) (ls : List (List ℕ)) (found : List FoundEntry) (w : World) → IsSilentFrom n found → (run_within bound n ls found w).failed ≡ w.failed
-quiet_within zero n [] found w silent = refl
-quiet_within (suc bound) n [] found w silent = refl
-quiet_within zero n (bytes ∷ later) found w silent = refl
-quiet_within (suc bound) n (bytes ∷ later) found w silent =
-    failed_on n found w (checked n bytes) later (λ v taken. run_within bound (n + taken) (drop taken (bytes ∷ later)) found v)
-    (λ v. quiet_within bound (n + 1) (drop 1 (bytes ∷ later)) found v (λ m past. silent m (omega (arith, past))))
-    ∙ quiet_outcome n found w (checked n bytes) (silent n (omega arith))
-
-pub quiet_from : (n : ℕ) (ls : List (List ℕ)) (found : List FoundEntry) (w : World) → IsSilentFrom n found → (run_from n ls found w).failed ≡ w.failed
-quiet_from n ls found w silent = quiet_within (length ls) n ls found w silent
-
--- from a line to the rest of the run
-
-took_nothing : (t0 t1 : Option (List ℕ)) → t1 ≡ t0 → Appends t0 t1 []
-took_nothing t0 t1 e = let P : Option (List ℕ) → Type 0 = λ t. Appends t0 t [] in subst P (sym e) (Appends-nil t0)
-
-checked_line : (n : ℕ) (line : List ℕ) → n ≤ 1048576 → length line ≤ 65536 → checked n line ≡ line_of line 0
-checked_line n line few short =
-    let within : nat_lt 1048576 n ≡ false = grind (arith, nat_tests) in
-    let fits : nat_lt 65536 (length line) ≡ false = grind (arith, nat_tests) in
-    rw (within, fits) refl
-
-one_line_goes : (n : ℕ) (found : List FoundEntry) (o : Result Line ℕ) (later : List (List ℕ)) (rest : World → ℕ → Run) (w : World) (new : Option World) (t0 t1 : Option (List ℕ))
-    → Replied None n (failing n found) o (Some w) new t0 t1 → IsSomeAnd new (λ v. Goes (goes_on n found w o later rest) (rest v 1) t0 t1)
-one_line_goes n found (Ok line) later rest w None t0 t1 replied = absurd (let none : None ≡ Some (answer_of n (failing n found) w line).world = replied.0 in cc)
-one_line_goes n found (Ok line) later rest w (Some v) t0 t1 replied = record {
-  replies = (answer_of n (failing n found) w line).output;
-  taken = replied.1;
-  goes_on =
-      let there : Some v ≡ Some (answer_of n (failing n found) w line).world = replied.0 in
-      let world : (answer_of n (failing n found) w line).world ≡ v = cc in
-      ap (λ t. preceded (answer_of n (failing n found) w line).output (rest t 1)) world;
-}
-one_line_goes n found (Err at) later rest w new t0 t1 replied = absurd replied
-
-bad_end : (n at : ℕ) (w : World) → IsEnd (over 3 (bad_line n at) w) 3 [] (bad_line n at) w.entropy
-bad_end n at w = record { status = refl; replies = refl; last = refl; entropy = refl }
-
-one_line_ends : (e : Ending) (n : ℕ) (found : List FoundEntry) (o : Result Line ℕ) (later : List (List ℕ)) (rest : World → ℕ → Run) (w : World) (new : Option World) (after : List FoundEntry) (t0 t1 : Option (List ℕ))
-    → Replied (Some e) n (failing n found) o (Some w) new t0 t1 → (goes_on n found w o later rest).failed ≡ after → Ends e (goes_on n found w o later rest) t0 t1 (entropy_of new) after
-one_line_ends Done n found o later rest w new after t0 t1 replied failed = absurd replied
-one_line_ends Usage n found o later rest w new after t0 t1 replied failed = absurd replied
-one_line_ends ReadFault n found o later rest w new after t0 t1 replied failed = absurd replied
-one_line_ends WriteFault n found (Ok line) later rest w new after t0 t1 replied failed = record {
-  replies = replied.part;
-  entropy = [];
-  taken = replied.taken;
-  ends =
-      let more : List ℕ = (rest (answer_of n (failing n found) w line).world 1).replies in
-      (replied.front.0 ++ more, ap (λ bytes. bytes ++ more) replied.front.1 ∙ append_assoc replied.part replied.front.0 more);
-  leaves = tt;
-  failed = failed;
-}
-one_line_ends WriteFault n found (Err at) later rest w new after t0 t1 replied failed = absurd replied
-one_line_ends NoMemory n found o later rest w new after t0 t1 replied failed =
-    record { replies = []; entropy = []; taken = took_nothing t0 t1 replied; ends = ((goes_on n found w o later rest).replies, refl); leaves = tt; failed = failed }
-one_line_ends (BadLine number at) n found o later rest w new after t0 t1 replied failed = record {
-  replies = [];
-  entropy = w.entropy;
-  taken = took_nothing t0 t1 replied.2;
-  ends =
-      let P : Result Line ℕ → Type 0 = λ outcome. IsEnd (goes_on n found w outcome later rest) 3 [] (bad_line number at) w.entropy in
-      let Q : ℕ → Type 0 = λ m. IsEnd (over 3 (bad_line n at) w) 3 [] (bad_line m at) w.entropy in
-      subst P (sym replied.1) (subst Q (sym replied.0) (bad_end n at w));
-  leaves = ap entropy_of replied.3;
-  failed = failed;
+acts_told : (n : ℕ) (a b : Outer) (world : Option World) (P Q : List FoundEntry → World → List Taking → Type 0) → ((entries : List FoundEntry) (w : World) (made : List Taking) → P entries w made → Q entries w made)
+    → Acts n a b (λ made. WhereTold world made (λ entries w. P entries w made)) → Acts n a b (λ made. WhereTold world made (λ entries w. Q entries w made))
+acts_told n a b world P Q follows acts = record {
+  made = acts.made;
+  takes = acts.takes;
+  said = λ entries agrees. on_told world (λ w. P entries w acts.made) (λ w. Q entries w acts.made) (λ w. follows entries w acts.made) (acts.said entries agrees);
 }
 
-pub line_ran : (told left : Option (List ℕ)) (n : ℕ) (line : List ℕ) (r : Option Ending) (old new : Option World) (a b : List FoundEntry) (t0 t1 : Option (List ℕ)) → n ≤ 1048576 → length line ≤ 65536
-    → IfSome told (λ bytes. TakesLine line bytes left) → Replied r n (failing_since n a b) (line_of line 0) old new t0 t1 → IfSome old (λ w. b ≡ listed_after n (failing_since n a b) w (line_of line 0))
-    → IfSome told (λ bytes. LineRan r n bytes left old new (since a b) b t0 t1)
-line_ran None left n line r old new a b t0 t1 few short takes replied listed = tt
-line_ran (Some bytes) None n line r old new a b t0 t1 few short takes replied listed = absurd takes
-line_ran (Some bytes) (Some rest) n line None None new a b t0 t1 few short takes replied listed = tt
-line_ran (Some bytes) (Some rest) n line None (Some w) new a b t0 t1 few short takes replied listed = λ found agrees.
-    let here : Replied None n (failing n found) (line_of line 0) (Some w) new t0 t1 = subst (λ (fails : Failing). Replied None n fails (line_of line 0) (Some w) new t0 t1) (sym agrees) replied in
-    rw (takes, checked_line n line few short) (one_line_goes n found (line_of line 0) (lines rest) (λ v taken. run_within (length (lines rest)) (n + taken) (drop taken (line ∷ lines rest)) found v) w new t0 t1 here)
-line_ran (Some bytes) (Some rest) n line (Some e) None new a b t0 t1 few short takes replied listed = tt
-line_ran (Some bytes) (Some rest) n line (Some e) (Some w) new a b t0 t1 few short takes replied listed = λ found agrees silent.
-    let here : Replied (Some e) n (failing n found) (line_of line 0) (Some w) new t0 t1 = subst (λ (fails : Failing). Replied (Some e) n fails (line_of line 0) (Some w) new t0 t1) (sym agrees) replied in
-    let after : b ≡ listed_after n (failing n found) w (line_of line 0) = subst (λ (fails : Failing). b ≡ listed_after n fails w (line_of line 0)) (sym agrees) listed in
-    let rest_of_run : World → ℕ → Run = λ v taken. run_within (length (lines rest)) (n + taken) (drop taken (line ∷ lines rest)) found v in
-    let failed : (goes_on n found w (line_of line 0) (lines rest) rest_of_run).failed ≡ b =
-    failed_on n found w (line_of line 0) (lines rest) rest_of_run (λ v. quiet_within (length (lines rest)) (n + 1) (drop 1 (line ∷ lines rest)) found v silent) ∙ sym after in
-    rw (takes, checked_line n line few short) (one_line_ends e n found (line_of line 0) (lines rest) rest_of_run w new b t0 t1 here failed)
+pub replied_all : (n : ℕ) (a b : Outer) (world new : Option World) (outcome : Result Line ℕ) (reply : List ℕ) (t0 t1 : Option (List ℕ)) → Appends t0 t1 reply
+    → Acts n a b (λ made. WhereTold world made (λ entries w. AnswersTo (Ok tt) n outcome entries w new [] reply made))
+    → Acts n a b (λ made. WhereTold world made (λ entries w. Replied None n outcome entries w new t0 t1 made))
+replied_all n a b world new outcome reply t0 t1 written =
+    acts_told n a b world (λ entries w made. AnswersTo (Ok tt) n outcome entries w new [] reply made) (λ entries w made. Replied None n outcome entries w new t0 t1 made)
+    (λ entries w made answered later. has_replied (answer_if n entries w outcome later) new reply t0 t1 made (answered later) written)
 
--- a run that goes on
+pub replied_cut : (n : ℕ) (a b : Outer) (world new : Option World) (outcome : Result Line ℕ) (reply : List ℕ) (t0 t1 : Option (List ℕ)) → TookCut reply t0 t1
+    → Acts n a b (λ made. WhereTold world made (λ entries w. AnswersTo (Ok tt) n outcome entries w new [] reply made))
+    → Acts n a b (λ made. WhereTold world made (λ entries w. Replied (Some WriteFault) n outcome entries w new t0 t1 made))
+replied_cut n a b world new outcome reply t0 t1 part =
+    acts_told n a b world (λ entries w made. AnswersTo (Ok tt) n outcome entries w new [] reply made) (λ entries w made. Replied (Some WriteFault) n outcome entries w new t0 t1 made)
+    (λ entries w made answered later. has_cut (answer_if n entries w outcome later) new reply t0 t1 made (answered later) part)
 
-preceded_nothing : (run : Run) → run ≡ preceded [] run
-preceded_nothing run = refl
+pub replied_bad : (n at : ℕ) (a b : Outer) (world new : Option World) (outcome : Result Line ℕ) (before after : List ℕ) (t : Option (List ℕ))
+    → Acts n a b (λ made. WhereTold world made (λ entries w. AnswersTo (Err (line_stops.Bad at)) n outcome entries w new before after made))
+    → Acts n a b (λ made. WhereTold world made (λ entries w. Replied (Some (BadLine n at)) n outcome entries w new t t made))
+replied_bad n at a b world new outcome before after t =
+    acts_told n a b world (λ entries w made. AnswersTo (Err (line_stops.Bad at)) n outcome entries w new before after made) (λ entries w made. Replied (Some (BadLine n at)) n outcome entries w new t t made)
+    (λ entries w made answered. (refl, answered.0, refl, answered.1))
 
-goes_none : (run : Run) (t : Option (List ℕ)) → Goes run run t t
-goes_none run t = record { replies = []; taken = Appends-nil t; goes_on = preceded_nothing run }
+pub replied_not : (n : ℕ) (a b : Outer) (world new : Option World) (outcome : Result Line ℕ) (before after : List ℕ) (t : Option (List ℕ))
+    → Acts n a b (λ made. WhereTold world made (λ entries w. AnswersTo (Err line_stops.NoMemory) n outcome entries w new before after made))
+    → Acts n a b (λ made. WhereTold world made (λ entries w. Replied (Some NoMemory) n outcome entries w new t t made))
+replied_not n a b world new outcome before after t =
+    acts_told n a b world (λ entries w made. AnswersTo (Err line_stops.NoMemory) n outcome entries w new before after made) (λ entries w made. Replied (Some NoMemory) n outcome entries w new t t made)
+    (λ entries w made answered. (refl, answered))
 
-goes_more : (a b c : Run) (t0 t1 t2 : Option (List ℕ)) → Goes a b t0 t1 → Goes b c t1 t2 → Goes a c t0 t2
-goes_more a b c t0 t1 t2 p q = record {
-  replies = p.replies ++ q.replies;
-  taken = Appends-append t0 t1 t2 p.replies q.replies p.taken q.taken;
-  goes_on = p.goes_on ∙ ap (preceded p.replies) q.goes_on
-      ∙ ap (λ replies. let run : Run = record { status = c.status; replies = replies; last = c.last; entropy = c.entropy; failed = c.failed } in run) (sym (append_assoc p.replies q.replies c.replies));
+-- how a line that was taken can end the run
+
+pub not_done : (r : Option Ending) → EndsInLine r → r ≢ Some Done
+not_done r kinds same = let none : EndsInLine (Some Done) = subst EndsInLine same kinds in none
+
+pub not_usage : (r : Option Ending) → EndsInLine r → r ≢ Some Usage
+not_usage r kinds same = let none : EndsInLine (Some Usage) = subst EndsInLine same kinds in none
+
+pub source_kept : (r : Option Ending) (before now : ℕ) → EndsInLine r → now ≡ before → SourceFaults r before now
+source_kept None before now kinds same = same
+source_kept (Some (BadLine number at)) before now kinds same = same
+source_kept (Some WriteFault) before now kinds same = same
+source_kept (Some NoMemory) before now kinds same = same
+source_kept (Some Done) before now kinds same = absurd kinds
+source_kept (Some Usage) before now kinds same = absurd kinds
+source_kept (Some ReadFault) before now kinds same = absurd kinds
+
+-- ---- turns, one after another
+
+pub flat_map_both : {A B : Type 0} (f : A → List B) (xs ys : List A) → flat_map f (xs ++ ys) ≡ flat_map f xs ++ flat_map f ys
+flat_map_both f [] ys = refl
+flat_map_both f (x ∷ xs) ys = ap (λ zs. f x ++ zs) (flat_map_both f xs ys) ∙ sym (append_assoc (f x) (flat_map f xs) (flat_map f ys))
+
+replies_both : (xs ys : List Turn) → replies_of (xs ++ ys) ≡ replies_of xs ++ replies_of ys
+replies_both xs ys = flat_map_both (λ turn. turn.output) xs ys
+
+made_both : (xs ys : List Turn) → made_in (xs ++ ys) ≡ made_in xs ++ made_in ys
+made_both xs ys = flat_map_both (λ turn. turn.takings) xs ys
+
+goes_none : (run : Run) (t : Option (List ℕ)) → GoesOn run run [] t t
+goes_none run t = record { turns = []; goes_on = refl; taken = Appends-nil t; made_is = refl }
+
+preceded_both : (xs ys : List Turn) (run : Run) → preceded xs (preceded ys run) ≡ preceded (xs ++ ys) run
+preceded_both xs ys run = ap (λ turns. let r : Run = record { turns = turns; status = run.status; last = run.last } in r) (sym (append_assoc xs ys run.turns))
+
+goes_more : (a b c : Run) (xs ys : List Taking) (t0 t1 t2 : Option (List ℕ)) → GoesOn a b xs t0 t1 → GoesOn b c ys t1 t2 → GoesOn a c (xs ++ ys) t0 t2
+goes_more a b c xs ys t0 t1 t2 p q = record {
+  turns = p.turns ++ q.turns;
+  goes_on = p.goes_on ∙ ap (preceded p.turns) q.goes_on ∙ preceded_both p.turns q.turns c;
+  taken = subst (λ (bytes : List ℕ). Appends t0 t2 bytes) (sym (replies_both p.turns q.turns)) (Appends-append t0 t1 t2 (replies_of p.turns) (replies_of q.turns) p.taken q.taken);
+  made_is = ap (λ zs. zs ++ ys) p.made_is ∙ ap (λ zs. made_in p.turns ++ zs) q.made_is ∙ sym (made_both p.turns q.turns);
 }
 
-precedes_whole : (b : Run) (code : ℕ) (front written line left : List ℕ) → IsEnd b code written line left → IsEnd (preceded front b) code (front ++ written) line left
-precedes_whole b code front written line left ends = record { status = ends.status; replies = ap (λ bytes. front ++ bytes) ends.replies; last = ends.last; entropy = ends.entropy }
+-- ---- how far a run came
 
-precedes_front : (b : Run) (front replies : List ℕ) → IsFront replies b.replies → IsFront (front ++ replies) (preceded front b).replies
-precedes_front b front replies ends = (ends.0, ap (λ bytes. front ++ bytes) ends.1 ∙ sym (append_assoc front replies ends.0))
-
-precedes_end : (e : Ending) (b : Run) (front replies entropy : List ℕ) → EndsAs e b replies entropy → EndsAs e (preceded front b) (front ++ replies) entropy
-precedes_end Done b front replies entropy ends = precedes_whole b _ front replies _ entropy ends
-precedes_end Usage b front replies entropy ends = precedes_whole b _ front replies _ entropy ends
-precedes_end (BadLine number at) b front replies entropy ends = precedes_whole b _ front replies _ entropy ends
-precedes_end ReadFault b front replies entropy ends = precedes_front b front replies ends
-precedes_end WriteFault b front replies entropy ends = precedes_front b front replies ends
-precedes_end NoMemory b front replies entropy ends = precedes_front b front replies ends
-
-taken_after : (e : Ending) (t0 t1 t2 : Option (List ℕ)) (a b : List ℕ) → Appends t0 t1 a → Taken e t1 t2 b → Taken e t0 t2 (a ++ b)
-taken_after WriteFault t0 t1 t2 a b p q = Took-after t0 t1 t2 a b p q
-taken_after Done t0 t1 t2 a b p q = Appends-append t0 t1 t2 a b p q
-taken_after Usage t0 t1 t2 a b p q = Appends-append t0 t1 t2 a b p q
-taken_after ReadFault t0 t1 t2 a b p q = Appends-append t0 t1 t2 a b p q
-taken_after NoMemory t0 t1 t2 a b p q = Appends-append t0 t1 t2 a b p q
-taken_after (BadLine number at) t0 t1 t2 a b p q = Appends-append t0 t1 t2 a b p q
-
-goes_ends : (e : Ending) (a b : Run) (t0 t1 t2 told : Option (List ℕ)) (found : List FoundEntry) → Goes a b t0 t1 → Ends e b t1 t2 told found → Ends e a t0 t2 told found
-goes_ends e a b t0 t1 t2 told found p q = record {
-  replies = p.replies ++ q.replies;
-  entropy = q.entropy;
-  taken = taken_after e t0 t1 t2 p.replies q.replies p.taken q.taken;
-  ends =
-      let P : Run → Type 0 = λ run. EndsAs e run (p.replies ++ q.replies) q.entropy in
-      subst P (sym p.goes_on) (precedes_end e b p.replies q.replies q.entropy q.ends);
-  leaves = q.leaves;
-  failed = ap (λ (run : Run). run.failed) p.goes_on ∙ q.failed;
+came_preceded : (front : List Turn) (b : Run) (status : ℕ) (replies : List ℕ) (made : List Taking) → Came b status replies made → Came (preceded front b) status (replies_of front ++ replies) (made_in front ++ made)
+came_preceded front b status replies made c = record {
+  turns = front ++ c.turns;
+  later = c.later;
+  whole = ap (λ zs. front ++ zs) c.whole ∙ sym (append_assoc front c.turns c.later);
+  answered = c.answered;
+  replied = λ other. ap (λ zs. replies_of front ++ zs) (c.replied other) ∙ sym (replies_both front c.turns);
+  taken = λ other memory. ap (λ zs. made_in front ++ zs) (c.taken other memory) ∙ sym (made_both front c.turns);
+  cut = λ five.
+      let there = c.cut five in
+      (there.0,
+        ap (λ zs. replies_of front ++ zs) there.1 ∙ sym (append_assoc (replies_of front) (replies_of c.turns) there.0) ∙ ap (λ zs. zs ++ there.0) (sym (replies_both front c.turns)),
+        there.2,
+        ap (λ zs. made_in front ++ zs) there.3 ∙ sym (made_both front (c.turns ++ take 1 c.later)) ∙ ap made_in (sym (append_assoc front c.turns (take 1 c.later))));
+  stopped = λ twelve.
+      let there = c.stopped twelve in
+      (there.0,
+        ap (λ zs. made_in front ++ zs) there.1 ∙ sym (append_assoc (made_in front) (made_in c.turns) there.0) ∙ ap (λ zs. zs ++ there.0) (sym (made_both front c.turns)),
+        there.2);
 }
 
--- lists that agree
+taken_more : (e : Ending) (t0 t1 t2 : Option (List ℕ)) (xs ys : List ℕ) → Appends t0 t1 xs → Taken e t1 t2 ys → Taken e t0 t2 (xs ++ ys)
+taken_more WriteFault t0 t1 t2 xs ys p q = Took-after t0 t1 t2 xs ys p q
+taken_more Done t0 t1 t2 xs ys p q = Appends-append t0 t1 t2 xs ys p q
+taken_more Usage t0 t1 t2 xs ys p q = Appends-append t0 t1 t2 xs ys p q
+taken_more ReadFault t0 t1 t2 xs ys p q = Appends-append t0 t1 t2 xs ys p q
+taken_more NoMemory t0 t1 t2 xs ys p q = Appends-append t0 t1 t2 xs ys p q
+taken_more (BadLine number at) t0 t1 t2 xs ys p q = Appends-append t0 t1 t2 xs ys p q
 
-abbrev pub AgreesBelow : ℕ → (listed found : List FoundEntry) → Type 0
-AgreesBelow n listed found = (m : ℕ) → m < n → failing m found ≡ failing m listed
-
--- the takings before line n, and those of line n
-pub record Parts (n : ℕ) (a b c : List FoundEntry) : Type 0 where
-  pub whole : since a c ≡ since a b ++ since b c
-  pub before : AllByRecursion (λ entry. entry.line < n) (since a b)
-  pub at_line : AllByRecursion (λ entry. entry.line ≡ n) (since b c)
-
-pub parts_of : (n : ℕ) (a b c : List FoundEntry) (f0 f1 f2 e0 e1 e2 : ℕ) → Lists (λ line. line < n) a b f0 f1 e0 e1 → Lists (λ line. line ≡ n) b c f1 f2 e1 e2 → Parts n a b c
-parts_of n a b c f0 f1 f2 e0 e1 e2 p q = record { whole = since_both a b c p.grew q.grew; before = p.lines; at_line = q.lines }
-
-parts_below : (n : ℕ) (a b c : List FoundEntry) → Parts n a b c → AgreesBelow n (since a b) (since a c)
-parts_below n a b c parts m below =
-    ap (failing m) parts.whole ∙ failing_first m (since a b) (since b c) (all_weaker (λ entry. entry.line ≡ n) (λ entry. entry.line ≡ m → ⊥) (since b c) (λ entry at_n at_m. omega (arith, at_n, at_m, below)) parts.at_line)
-
-parts_at : (n : ℕ) (a b c : List FoundEntry) → Parts n a b c → AgreesAt n (since b c) (since a c)
-parts_at n a b c parts =
-    ap (failing n) parts.whole ∙ failing_second n (since a b) (since b c) (all_weaker (λ entry. entry.line < n) (λ entry. entry.line ≡ n → ⊥) (since a b) (λ entry below at_n. omega (arith, below, at_n)) parts.before)
-
-parts_silent : (n : ℕ) (a b c : List FoundEntry) → Parts n a b c → IsSilentFrom (n + 1) (since a c)
-parts_silent n a b c parts m past =
-    ap (failing m) parts.whole
-    ∙ failing_first m (since a b) (since b c) (all_weaker (λ entry. entry.line ≡ n) (λ entry. entry.line ≡ m → ⊥) (since b c) (λ entry at_n at_m. omega (arith, at_n, at_m, past)) parts.at_line)
-    ∙ failing_none m (since a b) (all_weaker (λ entry. entry.line < n) (λ entry. entry.line ≡ m → ⊥) (since a b) (λ entry below at_m. omega (arith, below, at_m, past)) parts.before)
-
--- a run from its first line on, which has listed these takings, has come to line n, with these bytes unread and in this world
-pub record Reached (first n : ℕ) (told now : Option (List ℕ)) (start here : Option World) (listed : List FoundEntry) (t0 t1 : Option (List ℕ)) : Type 0 where
-  pub goes : IfSome told (λ bytes. IsSomeAnd now (λ rest. IfSome start (λ w. (found : List FoundEntry) → AgreesBelow n listed found →
-      IsSomeAnd here (λ v. Goes (run_from first (lines bytes) found w) (run_from n (lines rest) found v) t0 t1))))
-
-pub reached_none : (first : ℕ) (told : Option (List ℕ)) (start : Option World) (listed : List FoundEntry) (t : Option (List ℕ)) → Reached first first told told start start listed t t
-reached_none first None start listed t = record { goes = tt }
-reached_none first (Some bytes) None listed t = record { goes = tt }
-reached_none first (Some bytes) (Some w) listed t = record { goes = λ found agrees. goes_none (run_from first (lines bytes) found w) t }
-
-more_goes : (first n : ℕ) (bytes rest more : List ℕ) (found : List FoundEntry) (w : World) (b c : Option World) (t0 t1 t2 : Option (List ℕ))
-    → IsSomeAnd b (λ v. Goes (run_from first (lines bytes) found w) (run_from n (lines rest) found v) t0 t1)
-    → IfSome b (λ v. IsSomeAnd c (λ u. Goes (run_from n (lines rest) found v) (run_from (n + 1) (lines more) found u) t1 t2))
-    → IsSomeAnd c (λ u. Goes (run_from first (lines bytes) found w) (run_from (n + 1) (lines more) found u) t0 t2)
-more_goes first n bytes rest more found w None c t0 t1 t2 p q = absurd p
-more_goes first n bytes rest more found w (Some v) None t0 t1 t2 p q = absurd q
-more_goes first n bytes rest more found w (Some v) (Some u) t0 t1 t2 p q = goes_more (run_from first (lines bytes) found w) (run_from n (lines rest) found v) (run_from (n + 1) (lines more) found u) t0 t1 t2 p q
-
-line_goes : (n : ℕ) (rest more : List ℕ) (found listed after : List FoundEntry) (b c : Option World) (t1 t2 : Option (List ℕ)) → LineRan None n rest (Some more) b c listed after t1 t2 → AgreesAt n listed found
-    → IfSome b (λ v. IsSomeAnd c (λ u. Goes (run_from n (lines rest) found v) (run_from (n + 1) (lines more) found u) t1 t2))
-line_goes n rest more found listed after None c t1 t2 ran agrees = tt
-line_goes n rest more found listed after (Some v) c t1 t2 ran agrees = ran found agrees
-
-pub reached_more : (first n : ℕ) (told now left : Option (List ℕ)) (start here after : Option World) (a b c : List FoundEntry) (t0 t1 t2 : Option (List ℕ)) → Parts n a b c → Reached first n told now start here (since a b) t0 t1
-    → IfSome now (λ bytes. LineRan None n bytes left here after (since b c) c t1 t2) → Reached first (n + 1) told left start after (since a c) t0 t2
-reached_more first n None now left start here after a b c t0 t1 t2 parts p q = record { goes = tt }
-reached_more first n (Some bytes) None left start here after a b c t0 t1 t2 parts p q = absurd p.goes
-reached_more first n (Some bytes) (Some rest) None start here after a b c t0 t1 t2 parts p q = absurd q
-reached_more first n (Some bytes) (Some rest) (Some more) None here after a b c t0 t1 t2 parts p q = record { goes = tt }
-reached_more first n (Some bytes) (Some rest) (Some more) (Some w) here after a b c t0 t1 t2 parts p q = record {
-  goes = λ found agrees.
-      more_goes first n bytes rest more found w here after t0 t1 t2
-      (p.goes found (λ m below. agrees m (omega (arith, below)) ∙ parts_below n a b c parts m below))
-      (line_goes n rest more found (since b c) c here after t1 t2 q (agrees n (omega arith) ∙ parts_at n a b c parts));
+ends_preceded : (e : Ending) (front : List Turn) (b : Run) (ys : List Taking) (t0 t1 t2 : Option (List ℕ)) → Appends t0 t1 (replies_of front) → EndsSo e b ys t1 t2 → EndsSo e (preceded front b) (made_in front ++ ys) t0 t2
+ends_preceded e front b ys t0 t1 t2 taken q = record {
+  replies = replies_of front ++ q.replies;
+  taken = taken_more e t0 t1 t2 (replies_of front) q.replies taken q.taken;
+  came = came_preceded front b (status_of e) q.replies ys q.came;
+  last = q.last;
 }
 
-end_goes : (e : Ending) (first n : ℕ) (bytes rest : List ℕ) (found listed last : List FoundEntry) (w : World) (left : Option (List ℕ)) (b c : Option World) (t0 t1 t2 : Option (List ℕ))
-    → IsSomeAnd b (λ v. Goes (run_from first (lines bytes) found w) (run_from n (lines rest) found v) t0 t1) → LineRan (Some e) n rest left b c listed last t1 t2 → AgreesAt n listed found → IsSilentFrom (n + 1) found
-    → Ends e (run_from first (lines bytes) found w) t0 t2 (entropy_of c) last
-end_goes e first n bytes rest found listed last w left None c t0 t1 t2 p q agrees silent = absurd p
-end_goes e first n bytes rest found listed last w left (Some v) c t0 t1 t2 p q agrees silent =
-    goes_ends e (run_from first (lines bytes) found w) (run_from n (lines rest) found v) t0 t1 t2 (entropy_of c) last p (q found agrees silent)
-
-pub reached_end : (e : Ending) (first n : ℕ) (told now left : Option (List ℕ)) (start here after : Option World) (a b c : List FoundEntry) (t0 t1 t2 : Option (List ℕ)) → Parts n a b c
-    → Reached first n told now start here (since a b) t0 t1 → IfSome now (λ bytes. LineRan (Some e) n bytes left here after (since b c) c t1 t2)
-    → IfSome told (λ bytes. IfSome start (λ w. Ends e (run_from first (lines bytes) (since a c) w) t0 t2 (entropy_of after) c))
-reached_end e first n None now left start here after a b c t0 t1 t2 parts p q = tt
-reached_end e first n (Some bytes) None left start here after a b c t0 t1 t2 parts p q = absurd p.goes
-reached_end e first n (Some bytes) (Some rest) left None here after a b c t0 t1 t2 parts p q = tt
-reached_end e first n (Some bytes) (Some rest) left (Some w) here after a b c t0 t1 t2 parts p q =
-    end_goes e first n bytes rest (since a c) (since b c) c w left here after t0 t1 t2 (p.goes (since a c) (parts_below n a b c parts)) q (parts_at n a b c parts) (parts_silent n a b c parts)
-
--- a run that ends without a reply more
+goes_ends : (e : Ending) (a b : Run) (xs ys : List Taking) (t0 t1 t2 : Option (List ℕ)) → GoesOn a b xs t0 t1 → EndsSo e b ys t1 t2 → EndsSo e a (xs ++ ys) t0 t2
+goes_ends e a b xs ys t0 t1 t2 p q =
+    let whole : EndsSo e (preceded p.turns b) (made_in p.turns ++ ys) t0 t2 = ends_preceded e p.turns b ys t0 t1 t2 p.taken q in
+    subst (λ (r : Run). EndsSo e r (xs ++ ys) t0 t2) (sym p.goes_on) (subst (λ (zs : List Taking). EndsSo e (preceded p.turns b) (zs ++ ys) t0 t2) (sym p.made_is) whole)
 
 nothing_taken : (e : Ending) (t : Option (List ℕ)) → Taken e t t []
 nothing_taken WriteFault t = Took-from_Appends t t [] (Appends-nil t)
@@ -309,114 +212,344 @@ nothing_taken ReadFault t = Appends-nil t
 nothing_taken NoMemory t = Appends-nil t
 nothing_taken (BadLine number at) t = Appends-nil t
 
-leaves_all : (e : Ending) (entropy : List ℕ) → Leaves e (Some entropy) entropy
-leaves_all Done entropy = refl
-leaves_all Usage entropy = refl
-leaves_all (BadLine number at) entropy = refl
-leaves_all ReadFault entropy = tt
-leaves_all WriteFault entropy = tt
-leaves_all NoMemory entropy = tt
+pub unanswered : (status : ℕ) → 4 ≤ status → IsAnswered status → ⊥
+unanswered status high answered = ⊎_elim (λ e. omega (arith, e, high)) (λ other. ⊎_elim (λ e. omega (arith, e, high)) (λ e. omega (arith, e, high)) other) answered
 
-limit_goes : (e : Ending) (first : ℕ) (bytes rest : List ℕ) (found last : List FoundEntry) (w : World) (b : Option World) (t0 t1 : Option (List ℕ))
-    → IsSomeAnd b (λ v. Goes (run_from first (lines bytes) found w) (run_from 1048577 (lines rest) found v) t0 t1) → IfSome b (λ v. v.failed ≡ last) → IsSilentFrom 1048577 found
-    → ((v : World) → EndsAs e (run_from 1048577 (lines rest) found v) [] v.entropy) → Ends e (run_from first (lines bytes) found w) t0 t1 (entropy_of b) last
-limit_goes e first bytes rest found last w None t0 t1 p failed silent q = absurd p
-limit_goes e first bytes rest found last w (Some v) t0 t1 p failed silent q =
-    let ends : Ends e (run_from 1048577 (lines rest) found v) t1 t1 (Some v.entropy) last =
-    record { replies = []; entropy = v.entropy; taken = nothing_taken e t1; ends = q v; leaves = leaves_all e v.entropy; failed = quiet_from 1048577 (lines rest) found v silent ∙ failed } in
-    goes_ends e (run_from first (lines bytes) found w) (run_from 1048577 (lines rest) found v) t0 t1 t1 (Some v.entropy) last p ends
-
-all_silent : (n : ℕ) (found : List FoundEntry) → AllByRecursion (λ entry. entry.line < n) found → IsSilentFrom n found
-all_silent n found before m past = failing_none m found (all_weaker (λ entry. entry.line < n) (λ entry. entry.line ≡ m → ⊥) found (λ entry below at_m. omega (arith, below, at_m, past)) before)
-
-pub reached_limit : (e : Ending) (first : ℕ) (told now : Option (List ℕ)) (start here : Option World) (a b : List FoundEntry) (t0 t1 : Option (List ℕ)) → AllByRecursion (λ entry. entry.line < 1048577) (since a b)
-    → IfSome here (λ v. v.failed ≡ b) → Reached first 1048577 told now start here (since a b) t0 t1
-    → IfSome now (λ bytes. (found : List FoundEntry) → (w : World) → EndsAs e (run_from 1048577 (lines bytes) found w) [] w.entropy)
-    → IfSome told (λ bytes. IfSome start (λ w. Ends e (run_from first (lines bytes) (since a b) w) t0 t1 (entropy_of here) b))
-reached_limit e first None now start here a b t0 t1 before failed p q = tt
-reached_limit e first (Some bytes) None start here a b t0 t1 before failed p q = absurd p.goes
-reached_limit e first (Some bytes) (Some rest) None here a b t0 t1 before failed p q = tt
-reached_limit e first (Some bytes) (Some rest) (Some w) here a b t0 t1 before failed p q =
-    limit_goes e first bytes rest (since a b) b w here t0 t1 (p.goes (since a b) (λ m below. refl)) failed (all_silent 1048577 (since a b) before) (q (since a b))
-
--- a told world is that of its parts
-
-pub failed_told : (p : Plain) (files : Option (List (List ℕ × List ℕ))) (entropy : Option (List ℕ)) (found : List FoundEntry) → IfSome (told_world p files entropy found) (λ w. w.failed ≡ found)
-failed_told p None entropy found = tt
-failed_told p (Some files) None found = tt
-failed_told p (Some files) (Some entropy) found = refl
-
-leaves_told : (e : Ending) (told now : Option (List ℕ)) (entropy : List ℕ) → ((x : List ℕ) → told ≡ Some x → now ≡ Some x) → Leaves e told entropy → Leaves e now entropy
-leaves_told Done told now entropy same leaves = same entropy leaves
-leaves_told Usage told now entropy same leaves = same entropy leaves
-leaves_told (BadLine number at) told now entropy same leaves = same entropy leaves
-leaves_told ReadFault told now entropy same leaves = tt
-leaves_told WriteFault told now entropy same leaves = tt
-leaves_told NoMemory told now entropy same leaves = tt
-
-entropy_told : (p : Plain) (files : Option (List (List ℕ × List ℕ))) (now : Option (List ℕ)) (found : List FoundEntry) (x : List ℕ) → entropy_of (told_world p files now found) ≡ Some x → now ≡ Some x
-entropy_told p None now found x e = absurd (cc)
-entropy_told p (Some files) None found x e = absurd (cc)
-entropy_told p (Some files) (Some entropy) found x e = e
-
-pub ends_told : (e : Ending) (script : Option (List ℕ)) (world : Option World) (run : List ℕ → World → Run) (p : Plain) (files : Option (List (List ℕ × List ℕ))) (now : Option (List ℕ)) (found last : List FoundEntry) (t0 t1 : Option (List ℕ))
-    → IfSome script (λ bytes. IfSome world (λ w. Ends e (run bytes w) t0 t1 (entropy_of (told_world p files now found)) last)) → IfSome script (λ bytes. IfSome world (λ w. Ends e (run bytes w) t0 t1 now last))
-ends_told e None world run p files now found last t0 t1 ends = tt
-ends_told e (Some bytes) None run p files now found last t0 t1 ends = tt
-ends_told e (Some bytes) (Some w) run p files now found last t0 t1 ends = record {
-  replies = ends.replies;
-  entropy = ends.entropy;
-  taken = ends.taken;
-  ends = ends.ends;
-  leaves = leaves_told e (entropy_of (told_world p files now found)) now ends.entropy (entropy_told p files now found) ends.leaves;
-  failed = ends.failed;
+-- a run that is over, with these turns
+came_all : (run : Run) (status : ℕ) → status < 4 → run.status ≡ status → Came run status (replies_of run.turns) (made_in run.turns)
+came_all run status low same = record {
+  turns = run.turns;
+  later = [];
+  whole = sym (append-nil run.turns);
+  answered = λ answered. (same, refl);
+  replied = λ other. refl;
+  taken = λ other memory. refl;
+  cut = λ five. absurd (omega (arith, five, low));
+  stopped = λ twelve. absurd (omega (arith, twelve, low));
 }
+
+-- a run that has done nothing, of which more was to come
+came_none : (run : Run) (status : ℕ) → 4 ≤ status → status ≢ 5 → Came run status [] []
+came_none run status high other = record {
+  turns = [];
+  later = run.turns;
+  whole = refl;
+  answered = λ answered. absurd (unanswered status high answered);
+  replied = λ same. refl;
+  taken = λ same memory. refl;
+  cut = λ five. absurd (other five);
+  stopped = λ twelve. ([], refl, front_nil (made_in (take 1 run.turns)));
+}
+
+pub read_fault_ends : (run : Run) (t : Option (List ℕ)) → EndsSo ReadFault run [] t t
+read_fault_ends run t = record {
+  replies = [];
+  taken = Appends-nil t;
+  came = came_none run 4 (omega arith) (λ same. absurd (omega (arith, same)));
+  last = λ answered. absurd (unanswered 4 (omega arith) answered);
+}
+
+pub no_memory_ends : (run : Run) (t : Option (List ℕ)) → EndsSo NoMemory run [] t t
+no_memory_ends run t = record {
+  replies = [];
+  taken = Appends-nil t;
+  came = came_none run 12 (omega arith) (λ same. absurd (omega (arith, same)));
+  last = λ answered. absurd (unanswered 12 (omega arith) answered);
+}
+
+-- ---- from a line to the rest of the run
+
+took_nothing : (t0 t1 : Option (List ℕ)) → t1 ≡ t0 → Appends t0 t1 []
+took_nothing t0 t1 e = subst (λ (t : Option (List ℕ)). Appends t0 t []) (sym e) (Appends-nil t0)
+
+checked_line : (n : ℕ) (line : List ℕ) → n ≤ 1048576 → length line ≤ 65536 → checked n line ≡ line_of line 0
+checked_line n line few short =
+    let within : nat_lt 1048576 n ≡ false = grind (arith, nat_tests) in
+    let fits : nat_lt 65536 (length line) ≡ false = grind (arith, nat_tests) in
+    rw (within, fits) refl
+
+one_line_goes : (answer : Answer) (rest : Turn → Run) (next : World → Run) (new : Option World) (t0 t1 : Option (List ℕ)) (made : List Taking) → ((turn : Turn) → turn.lines ≡ 1 → rest turn ≡ next turn.world) → HasReplied answer new t0 t1 made
+    → IsSomeAnd new (λ v. GoesOn (goes_on answer rest) (next v) made t0 t1)
+one_line_goes (Goes turn) rest next None t0 t1 made on replied = absurd (let none : None ≡ Some turn.world = replied.0 in cc)
+one_line_goes (Goes turn) rest next (Some v) t0 t1 made on replied =
+    let there : Some v ≡ Some turn.world = replied.0 in
+    let world : turn.world ≡ v = cc in
+    record {
+      turns = turn ∷ [];
+      goes_on = ap (preceded (turn ∷ [])) (on turn replied.3 ∙ ap next world);
+      taken = subst (λ (bytes : List ℕ). Appends t0 t1 bytes) (append_nil turn.output) replied.1;
+      made_is = replied.2 ∙ sym (append-nil turn.takings);
+    }
+one_line_goes (Ends number at w takings) rest next new t0 t1 made on replied = absurd replied
+
+cut_ends : (answer : Answer) (rest : Turn → Run) (t0 t1 : Option (List ℕ)) (made : List Taking) → HasCut answer t0 t1 made → EndsSo WriteFault (goes_on answer rest) made t0 t1
+cut_ends (Goes turn) rest t0 t1 made cut = record {
+  replies = cut.0.part;
+  taken = cut.0.taken;
+  came = record {
+    turns = [];
+    later = turn ∷ (rest turn).turns;
+    whole = refl;
+    answered = λ answered. absurd (unanswered 5 (omega arith) answered);
+    replied = λ other. absurd (other refl);
+    taken = λ other memory. absurd (other refl);
+    cut = λ five. (cut.0.part, refl, subst (λ (bytes : List ℕ). IsCut cut.0.part bytes) (append_nil turn.output) cut.0.is_cut, cut.1 ∙ sym (append-nil turn.takings));
+    stopped = λ twelve. absurd (omega (arith, twelve));
+  };
+  last = λ answered. absurd (unanswered 5 (omega arith) answered);
+}
+cut_ends (Ends number at w takings) rest t0 t1 made cut = absurd cut
+
+stopped_ends : (answer : Answer) (rest : Turn → Run) (t0 t1 : Option (List ℕ)) (made : List Taking) → t1 ≡ t0 → IsFront made (answer_takings answer) → EndsSo NoMemory (goes_on answer rest) made t0 t1
+stopped_ends answer rest t0 t1 made same front = record {
+  replies = [];
+  taken = took_nothing t0 t1 same;
+  came = record {
+    turns = [];
+    later = (goes_on answer rest).turns;
+    whole = refl;
+    answered = λ answered. absurd (unanswered 12 (omega arith) answered);
+    replied = λ other. refl;
+    taken = λ other memory. absurd (memory refl);
+    cut = λ five. absurd (omega (arith, five));
+    stopped = λ twelve. (made, refl, next_takings answer rest made front);
+  };
+  last = λ answered. absurd (unanswered 12 (omega arith) answered);
+} where
+  next_takings : (answer : Answer) (rest : Turn → Run) (made : List Taking) → IsFront made (answer_takings answer) → IsFront made (made_in (take 1 (goes_on answer rest).turns))
+  next_takings (Goes turn) rest made front = subst (λ (zs : List Taking). IsFront made zs) (sym (append-nil turn.takings)) front
+  next_takings (Ends number at w takings) rest made front = subst (λ (zs : List Taking). IsFront made zs) (sym (append-nil takings)) front
+
+bad_ends : (n m at place : ℕ) (entries : List FoundEntry) (w : World) (outcome : Result Line ℕ) (later : List (List ℕ)) (rest : Turn → Run) (t0 t1 : Option (List ℕ)) → m ≡ n → outcome ≡ Err place → place ≡ at → t1 ≡ t0
+    → EndsSo (BadLine m at) (goes_on (answer_if n entries w outcome later) rest) [] t0 t1
+bad_ends n m at place entries w outcome later rest t0 t1 number bad same taken =
+    let run : Run = goes_on (answer_if n entries w (Err place) later) rest in
+    subst (λ (o : Result Line ℕ). EndsSo (BadLine m at) (goes_on (answer_if n entries w o later) rest) [] t0 t1) (sym bad) (record {
+      replies = [];
+      taken = took_nothing t0 t1 taken;
+      came = came_all run 3 (omega arith) refl;
+      last = λ answered. ap (λ k. bad_line k place) (sym number) ∙ ap (λ k. bad_line m k) same;
+    })
+
+one_line_ends : (e : Ending) (n : ℕ) (outcome : Result Line ℕ) (entries : List FoundEntry) (w : World) (new : Option World) (later : List (List ℕ)) (rest : Turn → Run) (t0 t1 : Option (List ℕ)) (made : List Taking)
+    → Replied (Some e) n outcome entries w new t0 t1 made → EndsSo e (goes_on (answer_if n entries w outcome later) rest) made t0 t1
+one_line_ends Done n outcome entries w new later rest t0 t1 made replied = absurd replied
+one_line_ends Usage n outcome entries w new later rest t0 t1 made replied = absurd replied
+one_line_ends ReadFault n outcome entries w new later rest t0 t1 made replied = absurd replied
+one_line_ends WriteFault n outcome entries w new later rest t0 t1 made replied = cut_ends (answer_if n entries w outcome later) rest t0 t1 made (replied later)
+one_line_ends NoMemory n outcome entries w new later rest t0 t1 made replied = stopped_ends (answer_if n entries w outcome later) rest t0 t1 made replied.0 (replied.1 later)
+one_line_ends (BadLine number at) n outcome entries w new later rest t0 t1 made replied =
+    subst (λ (zs : List Taking). EndsSo (BadLine number at) (goes_on (answer_if n entries w outcome later) rest) zs t0 t1) (sym replied.3)
+    (bad_ends n number at at entries w outcome later rest t0 t1 replied.0 replied.1 refl replied.2)
+
+line_ran_as : (r : Option Ending) (n : ℕ) (line bytes rest : List ℕ) (left : Option (List ℕ)) (found : List FoundEntry) (w : World) (new : Option World) (t0 t1 : Option (List ℕ)) (made : List Taking) → n ≤ 1048576 → length line ≤ 65536
+    → left ≡ Some rest → lines bytes ≡ line ∷ lines rest → Replied r n (line_of line 0) (entries_of n found) w new t0 t1 made → LineRan r n bytes left found w new t0 t1 made
+line_ran_as None n line bytes rest left found w new t0 t1 made few short told takes replied =
+    rw (told, takes, checked_line n line few short)
+    (one_line_goes (answer_if n (entries_of n found) w (line_of line 0) (lines rest)) (λ turn. run_within (length (lines rest)) (n + turn.lines) (drop turn.lines (line ∷ lines rest)) found turn.world)
+    (λ v. run_from (n + 1) (lines rest) found v) new t0 t1 made
+    (λ turn one. ap (λ k. run_within (length (lines rest)) (n + k) (drop k (line ∷ lines rest)) found turn.world) one) (replied (lines rest)))
+line_ran_as (Some e) n line bytes rest left found w new t0 t1 made few short told takes replied =
+    rw (takes, checked_line n line few short)
+    (one_line_ends e n (line_of line 0) (entries_of n found) w new (lines rest) (λ turn. run_within (length (lines rest)) (n + turn.lines) (drop turn.lines (line ∷ lines rest)) found turn.world) t0 t1 made replied)
+
+pub line_ran : (told left : Option (List ℕ)) (n : ℕ) (line : List ℕ) (r : Option Ending) (a b : Outer) (world new : Option World) (t0 t1 : Option (List ℕ)) → n ≤ 1048576 → length line ≤ 65536
+    → IfSome told (λ bytes. TakesLine line bytes left) → Acts n a b (λ made. WhereTold world made (λ entries w. Replied r n (line_of line 0) entries w new t0 t1 made))
+    → Acts n a b (λ made. IfSome told (λ bytes. WhereTold world made (λ found w. LineRan r n bytes left found w new t0 t1 made)))
+line_ran told left n line r a b world new t0 t1 few short takes acts = record { made = acts.made; takes = acts.takes; said = said told left takes } where
+  said : (told left : Option (List ℕ)) → IfSome told (λ bytes. TakesLine line bytes left) → IfSome told (λ bytes. WhereTold world acts.made (λ found w. LineRan r n bytes left found w new t0 t1 acts.made))
+  said None left takes = tt
+  said (Some bytes) None takes = absurd takes
+  said (Some bytes) (Some rest) takes = λ found agrees.
+      on_told world (λ w. Replied r n (line_of line 0) (entries_of n found) w new t0 t1 acts.made) (λ w. LineRan r n bytes (Some rest) found w new t0 t1 acts.made)
+      (λ w replied. line_ran_as r n line bytes rest (Some rest) found w new t0 t1 acts.made few short refl takes replied)
+      (acts.said (entries_of n found) (agrees_own n found acts.made acts.takes.lines agrees))
 
 -- where no line is taken the run ends
 
-long_end : (n m at : ℕ) (w : World) → m ≡ n → at ≡ 65536 → IsEnd (over 3 (bad_line n 65536) w) 3 [] (bad_line m at) w.entropy
-long_end n m at w same long = record { status = refl; replies = refl; last = ap (λ k. bad_line k 65536) (sym same) ∙ ap (λ k. bad_line m k) (sym long); entropy = refl }
-
-no_line_ends : (e : Ending) (n : ℕ) (bytes : List ℕ) (left : Option (List ℕ)) (found : List FoundEntry) (w : World) → n ≤ 1048576 → TakesNone e n bytes left → EndsAs e (run_from n (lines bytes) found w) [] w.entropy
-no_line_ends Done n bytes left found w few none = rw none.0 (record { status = refl; replies = refl; last = refl; entropy = refl })
-no_line_ends (BadLine m at) n bytes left found w few none =
+no_line_ends : (e : Ending) (n : ℕ) (bytes : List ℕ) (left : Option (List ℕ)) (found : List FoundEntry) (w : World) (t : Option (List ℕ)) → n ≤ 1048576 → TakesNone e n bytes left → EndsSo e (run_from n (lines bytes) found w) [] t t
+no_line_ends Done n bytes left found w t few none =
+    rw none.0 (record { replies = []; taken = Appends-nil t; came = came_all (record { turns = []; status = 0; last = [] }) 0 (omega arith) refl; last = λ answered. refl })
+no_line_ends (BadLine m at) n bytes left found w t few none =
     let within : nat_lt 1048576 n ≡ false = grind (arith, nat_tests) in
     let long : nat_lt 65536 (length none.2) ≡ true = let past : 65536 < length none.2 = none.5 in grind (arith, nat_tests) in
     let bad : checked n none.2 ≡ Err 65536 = rw (within, long) refl in
-    let run : List (List ℕ) → Run = λ ls. run_from n ls found w in
-    let whole : run_from n (lines bytes) found w ≡ over 3 (bad_line n 65536) w =
-    ap run none.4 ∙ ap (λ outcome. goes_on n found w outcome none.3 (λ v taken. run_within (length none.3) (n + taken) (drop taken (none.2 ∷ none.3)) found v)) bad in
-    let P : Run → Type 0 = λ r. IsEnd r 3 [] (bad_line m at) w.entropy in
-    subst P (sym whole) (long_end n m at w none.0 none.1)
-no_line_ends ReadFault n bytes left found w few none = ((run_from n (lines bytes) found w).replies, refl)
-no_line_ends NoMemory n bytes left found w few none = ((run_from n (lines bytes) found w).replies, refl)
-no_line_ends Usage n bytes left found w few none = absurd none
-no_line_ends WriteFault n bytes left found w few none = absurd none
+    subst (λ (ls : List (List ℕ)). EndsSo (BadLine m at) (run_from n ls found w) [] t t) (sym none.4)
+    (bad_ends n m at 65536 (entries_of n found) w (checked n none.2) none.3 (λ turn. run_within (length none.3) (n + turn.lines) (drop turn.lines (none.2 ∷ none.3)) found turn.world) t t none.0 bad (sym none.1) refl)
+no_line_ends ReadFault n bytes left found w t few none = read_fault_ends (run_from n (lines bytes) found w) t
+no_line_ends NoMemory n bytes left found w t few none = no_memory_ends (run_from n (lines bytes) found w) t
+no_line_ends Usage n bytes left found w t few none = absurd none
+no_line_ends WriteFault n bytes left found w t few none = absurd none
 
-pub line_not_taken : (told left : Option (List ℕ)) (e : Ending) (n : ℕ) (old : Option World) (a : List FoundEntry) (t : Option (List ℕ)) → n ≤ 1048576 → IfSome told (λ bytes. TakesNone e n bytes left) → IfSome old (λ w. w.failed ≡ a)
-    → IfSome told (λ bytes. LineRan (Some e) n bytes left old old (since a a) a t t)
-line_not_taken None left e n old a t few none failed = tt
-line_not_taken (Some bytes) left e n None a t few none failed = tt
-line_not_taken (Some bytes) left e n (Some w) a t few none failed = λ found agrees silent. record {
-  replies = [];
-  entropy = w.entropy;
-  taken = nothing_taken e t;
-  ends = no_line_ends e n bytes left found w few none;
-  leaves = leaves_all e w.entropy;
-  failed = quiet_from n (lines bytes) found w (silent_here n found (agrees ∙ ap (failing n) (since_none a)) silent) ∙ failed;
-}
+pub line_not_taken : (told left : Option (List ℕ)) (e : Ending) (n : ℕ) (outer : Outer) (world : Option World) (t : Option (List ℕ)) → n ≤ 1048576 → IfSome told (λ bytes. TakesNone e n bytes left)
+    → Acts n outer outer (λ made. IfSome told (λ bytes. WhereTold world made (λ found w. LineRan (Some e) n bytes left found w world t t made)))
+line_not_taken told left e n outer world t few none = record { made = []; takes = takes_none (λ line. line ≡ n) outer; said = said told none } where
+  each : (bytes : List ℕ) (found : List FoundEntry) (world : Option World) → TakesNone e n bytes left → IfSome world (λ w. EndsSo e (run_from n (lines bytes) found w) [] t t)
+  each bytes found None none = tt
+  each bytes found (Some w) none = no_line_ends e n bytes left found w t few none
+  said : (told : Option (List ℕ)) → IfSome told (λ bytes. TakesNone e n bytes left) → IfSome told (λ bytes. WhereTold world [] (λ found w. LineRan (Some e) n bytes left found w world t t []))
+  said None none = tt
+  said (Some bytes) none = λ found agrees. each bytes found world none
 
 -- past the last line that a script may have
 
-one_line_past : (line : List ℕ) (rest : List (List ℕ)) (bytes : List ℕ) (found : List FoundEntry) (w : World) → lines bytes ≡ line ∷ rest → EndsAs (BadLine 1048577 0) (run_from 1048577 (lines bytes) found w) [] w.entropy
-one_line_past line rest bytes found w e = rw e (record { status = refl; replies = refl; last = refl; entropy = refl })
+past_ends : (line : List ℕ) (rest : List (List ℕ)) (bytes : List ℕ) (found : List FoundEntry) (w : World) (t : Option (List ℕ)) → lines bytes ≡ line ∷ rest → EndsSo (BadLine 1048577 0) (run_from 1048577 (lines bytes) found w) [] t t
+past_ends line rest bytes found w t e =
+    subst (λ (ls : List (List ℕ)). EndsSo (BadLine 1048577 0) (run_from 1048577 ls found w) [] t t) (sym e)
+    (bad_ends 1048577 1048577 0 0 (entries_of 1048577 found) w (checked 1048577 line) rest (λ turn. run_within (length rest) (1048577 + turn.lines) (drop turn.lines (line ∷ rest)) found turn.world) t t refl refl refl refl)
 
 pub long_line_past : (told : Option (List ℕ)) → IfSome told (λ bytes. 65536 < length (first_line bytes))
-    → IfSome told (λ bytes. (found : List FoundEntry) → (w : World) → EndsAs (BadLine 1048577 0) (run_from 1048577 (lines bytes) found w) [] w.entropy)
+    → IfSome told (λ bytes. (found : List FoundEntry) → (w : World) → (t : Option (List ℕ)) → EndsSo (BadLine 1048577 0) (run_from 1048577 (lines bytes) found w) [] t t)
 long_line_past None long = tt
-long_line_past (Some bytes) long = λ found w. let there = too_long bytes long in one_line_past there.0 there.1 bytes found w there.2
+long_line_past (Some bytes) long = λ found w t. let there = too_long bytes long in past_ends there.0 there.1 bytes found w t there.2
 
 pub line_past : (told : Option (List ℕ)) (line : List ℕ) → IfSome told (λ bytes. Some line ≡ next_line bytes)
-    → IfSome told (λ bytes. (found : List FoundEntry) → (w : World) → EndsAs (BadLine 1048577 0) (run_from 1048577 (lines bytes) found w) [] w.entropy)
+    → IfSome told (λ bytes. (found : List FoundEntry) → (w : World) → (t : Option (List ℕ)) → EndsSo (BadLine 1048577 0) (run_from 1048577 (lines bytes) found w) [] t t)
 line_past None line next = tt
-line_past (Some bytes) line next = λ found w. one_line_past line (lines (rest_of bytes)) bytes found w (lines_next bytes ∙ rw (← next) refl)
+line_past (Some bytes) line next = λ found w t. past_ends line (lines (rest_of bytes)) bytes found w t (lines_next bytes ∙ rw (← next) refl)
+
+pub all_read_ends : (told : Option (List ℕ)) → IfSome told (λ bytes. None ≡ next_line bytes)
+    → IfSome told (λ bytes. (found : List FoundEntry) → (w : World) → (t : Option (List ℕ)) → EndsSo Done (run_from 1048577 (lines bytes) found w) [] t t)
+all_read_ends None next = tt
+all_read_ends (Some []) next = λ found w t. record { replies = []; taken = Appends-nil t; came = came_all (record { turns = []; status = 0; last = [] }) 0 (omega arith) refl; last = λ answered. refl }
+all_read_ends (Some (byte ∷ bytes)) next = absurd (cc)
+
+pub stopped_past : (e : Ending) (told : Option (List ℕ)) → ((run : Run) (t : Option (List ℕ)) → EndsSo e run [] t t)
+    → IfSome told (λ bytes. (found : List FoundEntry) → (w : World) → (t : Option (List ℕ)) → EndsSo e (run_from 1048577 (lines bytes) found w) [] t t)
+stopped_past e None ends = tt
+stopped_past e (Some bytes) ends = λ found w t. ends (run_from 1048577 (lines bytes) found w) t
+
+-- ---- many lines
+
+-- a run from its first line on has come to line n, with these bytes unread and in this world
+abbrev pub HasReached : (first n : ℕ) (told now : Option (List ℕ)) (start here : Option World) (t0 t1 : Option (List ℕ)) → List FoundEntry → List Taking → Type 0
+HasReached first n told now start here t0 t1 found made =
+    IfSome told (λ bytes. IfSome start (λ w. IsSomeAnd now (λ rest. IsSomeAnd here (λ v. GoesOn (run_from first (lines bytes) found w) (run_from n (lines rest) found v) made t0 t1))))
+
+pub reached_none : (first : ℕ) (here : ℕ → Type 0) (outer : Outer) (told : Option (List ℕ)) (start : Option World) (t : Option (List ℕ)) → RunsFrom here outer outer (HasReached first first told told start start t t)
+reached_none first here outer told start t = record { made = []; takes = takes_none here outer; said = λ found agrees. each found told start } where
+  each : (found : List FoundEntry) (told : Option (List ℕ)) (start : Option World) → HasReached first first told told start start t t found []
+  each found None start = tt
+  each found (Some bytes) None = tt
+  each found (Some bytes) (Some w) = goes_none (run_from first (lines bytes) found w) t
+
+more_reached : (first n : ℕ) (told now left : Option (List ℕ)) (start here after : Option World) (t0 t1 t2 : Option (List ℕ)) (found : List FoundEntry) (xs ys : List Taking) → HasReached first n told now start here t0 t1 found xs
+    → IfSome now (λ bytes. IfSome here (λ w. LineRan None n bytes left found w after t1 t2 ys)) → HasReached first (n + 1) told left start after t0 t2 found (xs ++ ys)
+more_reached first n None now left start here after t0 t1 t2 found xs ys p q = tt
+more_reached first n (Some bytes) now left None here after t0 t1 t2 found xs ys p q = tt
+more_reached first n (Some bytes) None left (Some w) here after t0 t1 t2 found xs ys p q = absurd p
+more_reached first n (Some bytes) (Some rest) left (Some w) None after t0 t1 t2 found xs ys p q = absurd p
+more_reached first n (Some bytes) (Some rest) None (Some w) (Some v) after t0 t1 t2 found xs ys p q = absurd q
+more_reached first n (Some bytes) (Some rest) (Some more) (Some w) (Some v) None t0 t1 t2 found xs ys p q = absurd q
+more_reached first n (Some bytes) (Some rest) (Some more) (Some w) (Some v) (Some u) t0 t1 t2 found xs ys p q =
+    goes_more (run_from first (lines bytes) found w) (run_from n (lines rest) found v) (run_from (n + 1) (lines more) found u) xs ys t0 t1 t2 p q
+
+pub reached_more : (first n : ℕ) (told now left : Option (List ℕ)) (start here after : Option World) (t0 t1 t2 : Option (List ℕ)) (a b c : Outer)
+    → RunsFrom (λ line. line < n) a b (HasReached first n told now start here t0 t1)
+    → Acts n b c (λ made. IfSome now (λ bytes. WhereTold here made (λ found w. LineRan None n bytes left found w after t1 t2 made)))
+    → RunsFrom (λ line. line < n + 1) a c (HasReached first (n + 1) told left start after t0 t2)
+reached_more first n told now left start here after t0 t1 t2 a b c p q = record {
+  made = p.made ++ q.made;
+  takes = takes_more (λ line. line < n) (λ line. line ≡ n) (λ line. line < n + 1) p.made q.made a b c (λ m below. omega (arith, below)) (λ m same. omega (arith, same)) (λ m k below same. omega (arith, below, same)) p.takes q.takes;
+  said = λ found agrees.
+      more_reached first n told now left start here after t0 t1 t2 found p.made q.made
+      (p.said found (all_first (λ taking. has_entry taking.entry found ≡ taking.fails) p.made q.made agrees))
+      (of_each found now (all_second (λ taking. has_entry taking.entry found ≡ taking.fails) p.made q.made agrees) q.said);
+} where
+  of_each : (found : List FoundEntry) (now : Option (List ℕ)) → Agrees found q.made → IfSome now (λ bytes. WhereTold here q.made (λ found w. LineRan None n bytes left found w after t1 t2 q.made))
+      → IfSome now (λ bytes. IfSome here (λ w. LineRan None n bytes left found w after t1 t2 q.made))
+  of_each found None agrees said = tt
+  of_each found (Some bytes) agrees said = said found agrees
+
+end_reached : (e : Ending) (first n : ℕ) (told now left : Option (List ℕ)) (start here after : Option World) (t0 t1 t2 : Option (List ℕ)) (found : List FoundEntry) (xs ys : List Taking) → HasReached first n told now start here t0 t1 found xs
+    → IfSome now (λ bytes. IfSome here (λ w. LineRan (Some e) n bytes left found w after t1 t2 ys)) → IfSome told (λ bytes. IfSome start (λ w. EndsSo e (run_from first (lines bytes) found w) (xs ++ ys) t0 t2))
+end_reached e first n None now left start here after t0 t1 t2 found xs ys p q = tt
+end_reached e first n (Some bytes) now left None here after t0 t1 t2 found xs ys p q = tt
+end_reached e first n (Some bytes) None left (Some w) here after t0 t1 t2 found xs ys p q = absurd p
+end_reached e first n (Some bytes) (Some rest) left (Some w) None after t0 t1 t2 found xs ys p q = absurd p
+end_reached e first n (Some bytes) (Some rest) left (Some w) (Some v) after t0 t1 t2 found xs ys p q =
+    goes_ends e (run_from first (lines bytes) found w) (run_from n (lines rest) found v) xs ys t0 t1 t2 p q
+
+pub reached_end : (e : Ending) (first n : ℕ) (told now left : Option (List ℕ)) (start here after : Option World) (t0 t1 t2 : Option (List ℕ)) (a b c : Outer) → n ≤ 1048576
+    → RunsFrom (λ line. line < n) a b (HasReached first n told now start here t0 t1)
+    → Acts n b c (λ made. IfSome now (λ bytes. WhereTold here made (λ found w. LineRan (Some e) n bytes left found w after t1 t2 made)))
+    → RunsFrom (λ line. line ≤ 1048576) a c (λ found made. IfSome told (λ bytes. IfSome start (λ w. EndsSo e (run_from first (lines bytes) found w) made t0 t2)))
+reached_end e first n told now left start here after t0 t1 t2 a b c few p q = record {
+  made = p.made ++ q.made;
+  takes = takes_more (λ line. line < n) (λ line. line ≡ n) (λ line. line ≤ 1048576) p.made q.made a b c (λ m below. omega (arith, below, few)) (λ m same. omega (arith, same, few)) (λ m k below same. omega (arith, below, same)) p.takes q.takes;
+  said = λ found agrees.
+      end_reached e first n told now left start here after t0 t1 t2 found p.made q.made
+      (p.said found (all_first (λ taking. has_entry taking.entry found ≡ taking.fails) p.made q.made agrees))
+      (of_each found now (all_second (λ taking. has_entry taking.entry found ≡ taking.fails) p.made q.made agrees) q.said);
+} where
+  of_each : (found : List FoundEntry) (now : Option (List ℕ)) → Agrees found q.made → IfSome now (λ bytes. WhereTold here q.made (λ found w. LineRan (Some e) n bytes left found w after t1 t2 q.made))
+      → IfSome now (λ bytes. IfSome here (λ w. LineRan (Some e) n bytes left found w after t1 t2 q.made))
+  of_each found None agrees said = tt
+  of_each found (Some bytes) agrees said = said found agrees
+
+limit_reached : (e : Ending) (first : ℕ) (told now : Option (List ℕ)) (start here : Option World) (t0 t1 : Option (List ℕ)) (found : List FoundEntry) (xs : List Taking) → HasReached first 1048577 told now start here t0 t1 found xs
+    → IfSome now (λ bytes. (found : List FoundEntry) → (w : World) → (t : Option (List ℕ)) → EndsSo e (run_from 1048577 (lines bytes) found w) [] t t)
+    → IfSome told (λ bytes. IfSome start (λ w. EndsSo e (run_from first (lines bytes) found w) xs t0 t1))
+limit_reached e first None now start here t0 t1 found xs p q = tt
+limit_reached e first (Some bytes) now None here t0 t1 found xs p q = tt
+limit_reached e first (Some bytes) None (Some w) here t0 t1 found xs p q = absurd p
+limit_reached e first (Some bytes) (Some rest) (Some w) None t0 t1 found xs p q = absurd p
+limit_reached e first (Some bytes) (Some rest) (Some w) (Some v) t0 t1 found xs p q =
+    subst (λ (zs : List Taking). EndsSo e (run_from first (lines bytes) found w) zs t0 t1) (append-nil xs)
+    (goes_ends e (run_from first (lines bytes) found w) (run_from 1048577 (lines rest) found v) xs [] t0 t1 t1 p (q found v t1))
+
+pub reached_limit : (e : Ending) (first : ℕ) (told now : Option (List ℕ)) (start here : Option World) (t0 t1 : Option (List ℕ)) (a b : Outer) → RunsFrom (λ line. line < 1048577) a b (HasReached first 1048577 told now start here t0 t1)
+    → IfSome now (λ bytes. (found : List FoundEntry) → (w : World) → (t : Option (List ℕ)) → EndsSo e (run_from 1048577 (lines bytes) found w) [] t t)
+    → RunsFrom (λ line. line ≤ 1048576) a b (λ found made. IfSome told (λ bytes. IfSome start (λ w. EndsSo e (run_from first (lines bytes) found w) made t0 t1)))
+reached_limit e first told now start here t0 t1 a b p q = record {
+  made = p.made;
+  takes = takes_weaker (λ line. line < 1048577) (λ line. line ≤ 1048576) p.made a b (λ m below. omega (arith, below)) p.takes;
+  said = λ found agrees. limit_reached e first told now start here t0 t1 found p.made (p.said found agrees) q;
+}
+
+-- a run that found no memory to begin
+
+pub no_memory_runs : (outer : Outer) (told : Option (List ℕ)) (start : Option World) (t : Option (List ℕ))
+    → RunsFrom (λ line. line ≤ 1048576) outer outer (λ found made. IfSome told (λ bytes. IfSome start (λ w. EndsSo NoMemory (run_from 1 (lines bytes) found w) made t t)))
+no_memory_runs outer told start t = record { made = []; takes = takes_none (λ line. line ≤ 1048576) outer; said = λ found agrees. each found told start } where
+  each : (found : List FoundEntry) (told : Option (List ℕ)) (start : Option World) → IfSome told (λ bytes. IfSome start (λ w. EndsSo NoMemory (run_from 1 (lines bytes) found w) [] t t))
+  each found None start = tt
+  each found (Some bytes) None = tt
+  each found (Some bytes) (Some w) = no_memory_ends (run_from 1 (lines bytes) found w) t
+
+-- a run from the reader's first byte on, over a host that holds nothing
+pub script_runs : (e : Ending) (keys : Plain) (reader : List ℕ) (left : Option (List ℕ)) (t0 t1 : Option (List ℕ)) (a b : Outer) → reader ≡ [] → keys ≡ no_keys
+    → RunsFrom (λ line. line ≤ 1048576) a b (λ found made. IfSome (unread reader left) (λ bytes. IfSome (told_world keys a) (λ w. EndsSo e (run_from 1 (lines bytes) found w) made t0 t1)))
+    → RunsFrom (λ line. line ≤ 1048576) a b (λ found made. IfSome left (λ bytes. IfSome (told_world no_keys a) (λ w. EndsSo e (run_from 1 (lines bytes) found w) made t0 t1)))
+script_runs e keys reader left t0 t1 a b empty none p = record {
+  made = p.made;
+  takes = p.takes;
+  said = λ found agrees.
+      let from : List ℕ → Plain → Type 0 = λ reader keys. IfSome (unread reader left) (λ bytes. IfSome (told_world keys a) (λ w. EndsSo e (run_from 1 (lines bytes) found w) p.made t0 t1)) in
+      each found left (subst (λ (r : List ℕ). from r no_keys) empty (subst (λ (k : Plain). from reader k) none (p.said found agrees)));
+} where
+  each : (found : List FoundEntry) (left : Option (List ℕ)) → IfSome (unread [] left) (λ bytes. IfSome (told_world no_keys a) (λ w. EndsSo e (run_from 1 (lines bytes) found w) p.made t0 t1))
+      → IfSome left (λ bytes. IfSome (told_world no_keys a) (λ w. EndsSo e (run_from 1 (lines bytes) found w) p.made t0 t1))
+  each found None said = tt
+  each found (Some bytes) said = said
+
+pub words_run : {W : Type 0} (words : List W) (e : Ending) (script : Option (List ℕ)) (world : Option World) (t0 t1 : Option (List ℕ)) (a b : Outer) → length words < 1
+    → RunsFrom (λ line. line ≤ 1048576) a b (λ found made. IfSome script (λ bytes. IfSome world (λ w. EndsSo e (run_from 1 (lines bytes) found w) made t0 t1)))
+    → RunsFrom (λ line. line ≤ 1048576) a b (λ found made. IfSome script (λ bytes. IfSome world (λ w. EndsSo e (transcript words bytes found w) made t0 t1)))
+words_run [] e script world t0 t1 a b none p = p
+words_run (word ∷ words) e script world t0 t1 a b none p = absurd (omega (arith, none))
+
+-- a faulty command line
+pub words_usage : {W : Type 0} (words : List W) (script : Option (List ℕ)) (world : Option World) (t : Option (List ℕ)) (outer : Outer) → 1 ≤ length words
+    → RunsFrom (λ line. line ≤ 1048576) outer outer (λ found made. IfSome script (λ bytes. IfSome world (λ w. EndsSo Usage (transcript words bytes found w) made t t)))
+words_usage [] script world t outer some = absurd (omega (arith, some))
+words_usage (word ∷ words) script world t outer some = record { made = []; takes = takes_none (λ line. line ≤ 1048576) outer; said = λ found agrees. each found script world } where
+  each : (found : List FoundEntry) (script : Option (List ℕ)) (world : Option World) → IfSome script (λ bytes. IfSome world (λ w. EndsSo Usage (transcript (word ∷ words) bytes found w) [] t t))
+  each found None world = tt
+  each found (Some bytes) None = tt
+  each found (Some bytes) (Some w) = record {
+    replies = [];
+    taken = Appends-nil t;
+    came = came_all (transcript (word ∷ words) bytes found w) 2 (omega arith) refl;
+    last = λ answered. refl;
+  }

@@ -1,395 +1,402 @@
--- What is listed of the takings of a line.
-use Rattle.std.proofs.Common.{◌≡◌, ◌⊎◌, inl, inr, ◌<◌, ℕ, ◌+◌, ◌≤◌, Bool, true, false, ◌&&◌, ◌||◌, ◌==◌, List, [], ◌∷◌, ◌++◌, length, drop, if◌then◌else◌, Option, Some, None, Result, Ok, Err, IfOk, IfSome, refl, ap, sym, ◌∙◌, subst, append_assoc, arith}
+-- Takings, one after another.
+use Rattle.std.proofs.Common.{◌≡◌, ◌⊎◌, inl, inr, ◌<◌, ℕ, ◌+◌, ◌≤◌, min, ◌-◌, ◌^◌, Bool, true, false, ◌&&◌, ◌||◌, ◌==◌, List, [], ◌∷◌, ◌++◌, length, take, drop, map, if◌then◌else◌, Option, Some, None, IfSome, refl, ap, sym, ◌∙◌, subst, append_assoc, ⊎_elim, arith}
+use Rattle.std.specs.Option.{option_map}
 use Rattle.std.specs.List.{AllByRecursion}
 use Rattle.std.proofs.lemmas.List.{append-nil}
-use Rattle.std.proofs.Math.Seq.{drop-append_seam, drop-length}
 use Rattle.std.proofs.lemmas.Bool.Decides.{nat_tests}
+use Rattle.edge_io.specs.Counts.{raised, one_more, is_listed, next_listed}
+use Rattle.edge_io.specs.Entropy.{is_short, fill_fails}
 use Rattle.edge_io.specs.Faults.{Rose}
-use Rattle.encryption_roots.specs.declared.props.Location.{Location}
-use Rattle.encryption_roots.specs.declared.props.Location.TheVariants.{Prompt, File}
-use Rattle.encryption_roots.specs.declared.kit.Fetched.{Fetched}
-use Rattle.encryption_roots.specs.declared.kit.Fetched.TheVariants as fetches
-use Rattle.encryption_roots.specs.declared.kit.SeedGot.{SeedGot}
-use Rattle.encryption_roots.specs.declared.kit.SeedGot.TheVariants as seeds
-use Rattle.encryption_roots.specs.declared.kit.LineKit.{LineKit}
-use Rattle.edge_io.specs.KeyFiles.{fetched}
-use Rattle.key_machine.specs.Needs.{Wanted}
 use Rattle.shell_run.specs.declared.found.FoundEntry.{FoundEntry}
 use Rattle.shell_run.specs.declared.found.FoundKind.{FoundKind}
-use Rattle.shell_run.specs.declared.found.FoundKind.TheVariants.{OldKey, NewKey, Seed}
-use Rattle.shell_run.specs.Failing.{is_old_key, is_new_key, is_seed, is_listed, Failing, failing, since, failing_since, entry_of, failed_fetch, failed_fill, failed_takings}
-use Rattle.shell_run.specs.Takings.{RoseBy, is_key, count_of, keys_in, seeds_in, IsBefore, AreInOrder, Lists, is_fault, is_seed_fault, listed_fetch, listed_fill}
-use Rattle.shell_run.specs.Transcript.{material_of, material_at, seed_from, entropy_left, kit_of}
+use Rattle.shell_run.specs.declared.found.FoundKind.TheVariants.{OldKey, NewKey, Seed, Streams, Shelf}
+use Rattle.shell_run.specs.Answers.{IsCalled, CountsFault, Agrees, taking_with}
+use Rattle.shell_run.specs.Outer.{Calls, Outer, number_after, failed_count, Called, FailWhereListed, left_after, FailWhereListedOrShort, Takes}
+use Rattle.shell_run.specs.Takings.{rank, IsBefore, AreInOrder, entries_of, has_entry, Taking, failures, is_fetch, is_fill, outcomes, fetches_of, fills_of}
 
--- ---- lists that grow
+abbrev pub entries_made : List Taking → List FoundEntry
+entries_made made = map (λ taking. taking.entry) made
 
-abbrev pub Grew : List FoundEntry → List FoundEntry → Type 0
-Grew old new = (more : List FoundEntry) × (new ≡ old ++ more)
+-- ---- two lists of takings
 
-pub since_more : (old more new : List FoundEntry) → new ≡ old ++ more → since old new ≡ more
-since_more old more new e = ap (drop (length old)) e ∙ drop-append_seam old more
+entries_both : (xs ys : List Taking) → entries_made (xs ++ ys) ≡ entries_made xs ++ entries_made ys
+entries_both [] ys = refl
+entries_both (taking ∷ xs) ys = ap (λ es. taking.entry ∷ es) (entries_both xs ys)
 
-pub since_none : (found : List FoundEntry) → since found found ≡ []
-since_none found = drop-length found
+pub failures_both : (xs ys : List Taking) → failures (xs ++ ys) ≡ failures xs ++ failures ys
+failures_both [] ys = refl
+failures_both (taking ∷ xs) ys = by_case (failures_both xs ys) taking.fails where
+  by_case : failures (xs ++ ys) ≡ failures xs ++ failures ys → (b : Bool) → (if b then taking.entry ∷ failures (xs ++ ys) else failures (xs ++ ys)) ≡ (if b then taking.entry ∷ failures xs else failures xs) ++ failures ys
+  by_case rest true = ap (λ es. taking.entry ∷ es) rest
+  by_case rest false = rest
 
-pub since_both : (a b c : List FoundEntry) → Grew a b → Grew b c → since a c ≡ since a b ++ since b c
-since_both a b c p q =
-    since_more a (p.0 ++ q.0) c (q.1 ∙ ap (λ xs. xs ++ q.0) p.1 ∙ append_assoc a p.0 q.0)
-    ∙ ap (λ xs. xs ++ q.0) (sym (since_more a p.0 b p.1)) ∙ ap (λ xs. since a b ++ xs) (sym (since_more b q.0 c q.1))
+pub outcomes_both : (is_kind : FoundKind → Bool) (xs ys : List Taking) → outcomes is_kind (xs ++ ys) ≡ outcomes is_kind xs ++ outcomes is_kind ys
+outcomes_both is_kind [] ys = refl
+outcomes_both is_kind (taking ∷ xs) ys = by_case (outcomes_both is_kind xs ys) (is_kind taking.entry.what) where
+  by_case : outcomes is_kind (xs ++ ys) ≡ outcomes is_kind xs ++ outcomes is_kind ys → (b : Bool)
+      → (if b then taking.fails ∷ outcomes is_kind (xs ++ ys) else outcomes is_kind (xs ++ ys)) ≡ (if b then taking.fails ∷ outcomes is_kind xs else outcomes is_kind xs) ++ outcomes is_kind ys
+  by_case rest true = ap (λ bs. taking.fails ∷ bs) rest
+  by_case rest false = rest
 
-grew_both : (a b c : List FoundEntry) → Grew a b → Grew b c → Grew a c
-grew_both a b c p q = (p.0 ++ q.0, q.1 ∙ ap (λ xs. xs ++ q.0) p.1 ∙ append_assoc a p.0 q.0)
-
--- ---- counts
-
-Rose-apart : (first middle now a b : ℕ) → first ≤ middle → middle ≤ now → RoseBy a first middle → RoseBy b middle now → RoseBy (a + b) first now
-Rose-apart first middle now a b p q r s = omega (arith, p, q, r, s)
-
-count_both : (is_kind : FoundKind → Bool) (xs ys : List FoundEntry) → count_of is_kind (xs ++ ys) ≡ count_of is_kind xs + count_of is_kind ys
-count_both is_kind [] ys = omega arith
-count_both is_kind (entry ∷ xs) ys = by_kind (count_both is_kind xs ys) (is_kind entry.what) where
-  by_kind : count_of is_kind (xs ++ ys) ≡ count_of is_kind xs + count_of is_kind ys → (b : Bool) → (if b then count_of is_kind (xs ++ ys) + 1 else count_of is_kind (xs ++ ys)) ≡ (if b then count_of is_kind xs + 1 else count_of is_kind xs) + count_of is_kind ys
-  by_kind rest true = omega (arith, rest)
-  by_kind rest false = rest
-
-all_both : (P : FoundEntry → Type 0) (xs ys : List FoundEntry) → AllByRecursion P xs → AllByRecursion P ys → AllByRecursion P (xs ++ ys)
+pub all_both : {A : Type 0} (P : A → Type 0) (xs ys : List A) → AllByRecursion P xs → AllByRecursion P ys → AllByRecursion P (xs ++ ys)
 all_both P [] ys p q = q
-all_both P (entry ∷ xs) ys p q = (p.0, all_both P xs ys p.1 q)
+all_both P (x ∷ xs) ys p q = (p.0, all_both P xs ys p.1 q)
 
-pub all_weaker : (P Q : FoundEntry → Type 0) (xs : List FoundEntry) → ((x : FoundEntry) → P x → Q x) → AllByRecursion P xs → AllByRecursion Q xs
+pub all_first : {A : Type 0} (P : A → Type 0) (xs ys : List A) → AllByRecursion P (xs ++ ys) → AllByRecursion P xs
+all_first P [] ys p = tt
+all_first P (x ∷ xs) ys p = (p.0, all_first P xs ys p.1)
+
+pub all_second : {A : Type 0} (P : A → Type 0) (xs ys : List A) → AllByRecursion P (xs ++ ys) → AllByRecursion P ys
+all_second P [] ys p = p
+all_second P (x ∷ xs) ys p = all_second P xs ys p.1
+
+pub all_weaker : {A : Type 0} (P Q : A → Type 0) (xs : List A) → ((x : A) → P x → Q x) → AllByRecursion P xs → AllByRecursion Q xs
 all_weaker P Q [] weaker p = tt
-all_weaker P Q (entry ∷ xs) weaker p = (weaker entry p.0, all_weaker P Q xs weaker p.1)
+all_weaker P Q (x ∷ xs) weaker p = (weaker x p.0, all_weaker P Q xs weaker p.1)
 
--- what a part of a run lists, but for the order
-record Part (here : ℕ → Type 0) (old new : List FoundEntry) (files_before files_now entropy_before entropy_now : ℕ) : Type 0 where
-  grew : Grew old new
-  lines : AllByRecursion (λ entry. here entry.line) (since old new)
-  files : files_before ≤ files_now
-  entropy : entropy_before ≤ entropy_now
-  kinds : AllByRecursion (λ entry. is_key entry.what || is_seed entry.what ≡ true) (since old new)
-  keys : RoseBy (keys_in (since old new)) files_before files_now
-  seeds : RoseBy (seeds_in (since old new)) entropy_before entropy_now
+all_entries : (P : FoundEntry → Type 0) (xs : List Taking) → AllByRecursion (λ taking. P taking.entry) xs → AllByRecursion P (entries_made xs)
+all_entries P [] p = tt
+all_entries P (taking ∷ xs) p = (p.0, all_entries P xs p.1)
 
-part_of : (here : ℕ → Type 0) (a b : List FoundEntry) (f0 f1 e0 e1 : ℕ) → Lists here a b f0 f1 e0 e1 → Part here a b f0 f1 e0 e1
-part_of here a b f0 f1 e0 e1 p = record { grew = p.grew; lines = p.lines; files = p.files; entropy = p.entropy; kinds = p.kinds; keys = p.keys; seeds = p.seeds }
+-- ---- calls, one after another
 
-whole_of : (here : ℕ → Type 0) (a b : List FoundEntry) (f0 f1 e0 e1 : ℕ) → Part here a b f0 f1 e0 e1 → AreInOrder (since a b) → Lists here a b f0 f1 e0 e1
-whole_of here a b f0 f1 e0 e1 p order = record { grew = p.grew; order = order; lines = p.lines; files = p.files; entropy = p.entropy; kinds = p.kinds; keys = p.keys; seeds = p.seeds }
+number_both : (xs ys : List Bool) (n : ℕ) → number_after (xs ++ ys) n ≡ number_after ys (number_after xs n)
+number_both [] ys n = refl
+number_both (fails ∷ xs) ys n = number_both xs ys (one_more n)
 
-part_weaker : (here there : ℕ → Type 0) (a b : List FoundEntry) (f0 f1 e0 e1 : ℕ) → ((m : ℕ) → here m → there m) → Part here a b f0 f1 e0 e1 → Part there a b f0 f1 e0 e1
-part_weaker here there a b f0 f1 e0 e1 weaker p = record {
-  grew = p.grew;
-  lines = all_weaker (λ entry. here entry.line) (λ entry. there entry.line) (since a b) (λ entry. weaker entry.line) p.lines;
-  files = p.files;
-  entropy = p.entropy;
-  kinds = p.kinds;
-  keys = p.keys;
-  seeds = p.seeds;
+failed_both : (xs ys : List Bool) → failed_count (xs ++ ys) ≡ failed_count xs + failed_count ys
+failed_both [] ys = omega arith
+failed_both (fails ∷ xs) ys = by_case (failed_both xs ys) fails where
+  by_case : failed_count (xs ++ ys) ≡ failed_count xs + failed_count ys → (b : Bool) → (if b then failed_count (xs ++ ys) + 1 else failed_count (xs ++ ys)) ≡ (if b then failed_count xs + 1 else failed_count xs) + failed_count ys
+  by_case rest true = omega (arith, rest)
+  by_case rest false = rest
+
+same_number : (told : Option ℕ) → told ≡ option_map (number_after []) told
+same_number None = refl
+same_number (Some n) = refl
+
+numbers_both : (xs ys : List Bool) (a b c : Option ℕ) → b ≡ option_map (number_after xs) a → c ≡ option_map (number_after ys) b → c ≡ option_map (number_after (xs ++ ys)) a
+numbers_both xs ys None b c p q = q ∙ ap (option_map (number_after ys)) p
+numbers_both xs ys (Some n) b c p q = q ∙ ap (option_map (number_after ys)) p ∙ ap (λ m. Some m) (sym (number_both xs ys n))
+
+called_none : (calls : Calls) → Called [] calls calls
+called_none calls = record { made = same_number calls.made; failing = refl; later = omega arith; rose = omega arith; kept = λ _. refl }
+
+called_more : (xs ys : List Bool) (a b c : Calls) → Called xs a b → Called ys b c → Called (xs ++ ys) a c
+called_more xs ys a b c p q = record {
+  made = numbers_both xs ys a.made b.made c.made p.made q.made;
+  failing = q.failing ∙ p.failing;
+  later = omega (arith, p.later, q.later);
+  rose = omega (arith, failed_both xs ys, p.later, q.later, p.rose, q.rose);
+  kept = λ none.
+      let first : failed_count xs ≡ 0 = omega (arith, none, failed_both xs ys) in
+      let second : failed_count ys ≡ 0 = omega (arith, none, failed_both xs ys) in
+      q.kept second ∙ p.kept first;
 }
 
-part_more : (here : ℕ → Type 0) (a b c : List FoundEntry) (f0 f1 f2 e0 e1 e2 : ℕ) → Part here a b f0 f1 e0 e1 → Part here b c f1 f2 e1 e2 → Part here a c f0 f2 e0 e2
-part_more here a b c f0 f1 f2 e0 e1 e2 p q =
-    let whole : since a c ≡ since a b ++ since b c = since_both a b c p.grew q.grew in
+called_once : (known : Option Bool) (fails : Bool) (old new : Calls) → IsCalled known fails old new → Called (fails ∷ []) old new
+called_once known true old new p = record { made = once old.made new.made p.made; failing = p.failing; later = p.faults.0; rose = omega (arith, p.faults.1); kept = λ none. absurd (omega (arith, none)) } where
+  once : (a b : Option ℕ) → b ≡ option_map one_more a → b ≡ option_map (number_after (true ∷ [])) a
+  once None b e = e
+  once (Some n) b e = e
+called_once known false old new p = record { made = once old.made new.made p.made; failing = p.failing; later = omega (arith, p.faults); rose = omega (arith, p.faults); kept = λ none. p.faults } where
+  once : (a b : Option ℕ) → b ≡ option_map one_more a → b ≡ option_map (number_after (false ∷ [])) a
+  once None b e = e
+  once (Some n) b e = e
+
+listed_both : (failing : List ℕ) (n : ℕ) (xs ys : List Bool) → FailWhereListed failing n xs → FailWhereListed failing (number_after xs n) ys → FailWhereListed failing n (xs ++ ys)
+listed_both failing n [] ys p q = q
+listed_both failing n (fails ∷ xs) ys p q = (p.0, listed_both failing (one_more n) xs ys p.1 q)
+
+left_both : (xs ys : List Bool) (left : List ℕ) → left_after (xs ++ ys) left ≡ left_after ys (left_after xs left)
+left_both [] ys left = refl
+left_both (fails ∷ xs) ys left = left_both xs ys (if fails then left else drop 32 left)
+
+short_both : (failing : List ℕ) (n : ℕ) (left : List ℕ) (xs ys : List Bool) → FailWhereListedOrShort failing n left xs → FailWhereListedOrShort failing (number_after xs n) (left_after xs left) ys
+    → FailWhereListedOrShort failing n left (xs ++ ys)
+short_both failing n left [] ys p q = q
+short_both failing n left (fails ∷ xs) ys p q = (p.0, short_both failing (one_more n) (if fails then left else drop 32 left) xs ys p.1 q)
+
+-- where calls are told, so are the later ones
+abbrev ListedAt : Option ℕ → Option (List ℕ) → List Bool → Type 0
+ListedAt made failing xs = IfSome made (λ number. IfSome failing (λ listed. FailWhereListed listed number xs))
+
+listed_more : (a b : Option ℕ) (fa fb : Option (List ℕ)) (xs ys : List Bool) → b ≡ option_map (number_after xs) a → fb ≡ fa → ListedAt a fa xs → ListedAt b fb ys → ListedAt a fa (xs ++ ys)
+listed_more None b fa fb xs ys e f p q = tt
+listed_more (Some n) b None fb xs ys e f p q = tt
+listed_more (Some n) b (Some failing) fb xs ys e f p q =
+    let there : ListedAt (Some (number_after xs n)) (Some failing) ys =
+    subst (λ (m : Option ℕ). ListedAt m (Some failing) ys) e (subst (λ (l : Option (List ℕ)). ListedAt b l ys) f q) in
+    listed_both failing n xs ys p there
+
+abbrev ShortAt : Option ℕ → Option (List ℕ) → Option (List ℕ) → List Bool → Type 0
+ShortAt made failing entropy xs = IfSome made (λ number. IfSome failing (λ listed. IfSome entropy (λ left. FailWhereListedOrShort listed number left xs)))
+
+short_more : (a b : Option ℕ) (fa fb ea eb : Option (List ℕ)) (xs ys : List Bool) → b ≡ option_map (number_after xs) a → fb ≡ fa → IfSome ea (λ left. eb ≡ Some (left_after xs left))
+    → ShortAt a fa ea xs → ShortAt b fb eb ys → ShortAt a fa ea (xs ++ ys)
+short_more None b fa fb ea eb xs ys e f g p q = tt
+short_more (Some n) b None fb ea eb xs ys e f g p q = tt
+short_more (Some n) b (Some failing) fb None eb xs ys e f g p q = tt
+short_more (Some n) b (Some failing) fb (Some left) eb xs ys e f g p q =
+    let first : ShortAt b (Some failing) eb ys = subst (λ (l : Option (List ℕ)). ShortAt b l eb ys) f q in
+    let second : ShortAt (Some (number_after xs n)) (Some failing) eb ys = subst (λ (m : Option ℕ). ShortAt m (Some failing) eb ys) e first in
+    let third : ShortAt (Some (number_after xs n)) (Some failing) (Some (left_after xs left)) ys = subst (λ (l : Option (List ℕ)). ShortAt (Some (number_after xs n)) (Some failing) l ys) g second in
+    short_both failing n left xs ys p third
+
+left_more : (ea eb ec : Option (List ℕ)) (xs ys : List Bool) → IfSome ea (λ left. eb ≡ Some (left_after xs left)) → IfSome eb (λ left. ec ≡ Some (left_after ys left)) → IfSome ea (λ left. ec ≡ Some (left_after (xs ++ ys) left))
+left_more None eb ec xs ys p q = tt
+left_more (Some left) eb ec xs ys p q =
+    let there : IfSome (Some (left_after xs left)) (λ l. ec ≡ Some (left_after ys l)) = subst (λ (e : Option (List ℕ)). IfSome e (λ l. ec ≡ Some (left_after ys l))) p q in
+    there ∙ ap (λ l. Some l) (sym (left_both xs ys left))
+
+same_left : (e : Option (List ℕ)) → IfSome e (λ left. e ≡ Some (left_after [] left))
+same_left None = tt
+same_left (Some left) = refl
+
+none_listed_at : (made : Option ℕ) (failing : Option (List ℕ)) → ListedAt made failing []
+none_listed_at None failing = tt
+none_listed_at (Some n) None = tt
+none_listed_at (Some n) (Some listed) = tt
+
+none_short_at : (made : Option ℕ) (failing entropy : Option (List ℕ)) → ShortAt made failing entropy []
+none_short_at None failing entropy = tt
+none_short_at (Some n) None entropy = tt
+none_short_at (Some n) (Some listed) None = tt
+none_short_at (Some n) (Some listed) (Some left) = tt
+
+-- ---- takings, one after another
+
+pub takes_none : (here : ℕ → Type 0) (outer : Outer) → Takes here [] outer outer
+takes_none here outer = record {
+  order = tt;
+  lines = tt;
+  kinds = tt;
+  found = sym (append-nil outer.found);
+  files = refl;
+  entropy = same_left outer.entropy;
+  fetches = called_none outer.fetches;
+  fills = called_none outer.fills;
+  fetch_fails = none_listed_at outer.fetches.made outer.fetches.failing;
+  fill_fails = none_short_at outer.fills.made outer.fills.failing outer.entropy;
+}
+
+pub takes_weaker : (here there : ℕ → Type 0) (made : List Taking) (a b : Outer) → ((m : ℕ) → here m → there m) → Takes here made a b → Takes there made a b
+takes_weaker here there made a b weaker p = record {
+  order = p.order;
+  lines = all_weaker (λ taking. here taking.entry.line) (λ taking. there taking.entry.line) made (λ taking. weaker taking.entry.line) p.lines;
+  kinds = p.kinds;
+  found = p.found;
+  files = p.files;
+  entropy = p.entropy;
+  fetches = p.fetches;
+  fills = p.fills;
+  fetch_fails = p.fetch_fails;
+  fill_fails = p.fill_fails;
+}
+
+pub takes_both : (here : ℕ → Type 0) (xs ys : List Taking) (a b c : Outer) → AreInOrder (entries_made (xs ++ ys)) → Takes here xs a b → Takes here ys b c → Takes here (xs ++ ys) a c
+takes_both here xs ys a b c order p q =
+    let fetches : fetches_of (xs ++ ys) ≡ fetches_of xs ++ fetches_of ys = outcomes_both is_fetch xs ys in
+    let fills : fills_of (xs ++ ys) ≡ fills_of xs ++ fills_of ys = outcomes_both is_fill xs ys in
     record {
-      grew = grew_both a b c p.grew q.grew;
-      lines = subst (AllByRecursion (λ (entry : FoundEntry). here entry.line)) (sym whole) (all_both (λ entry. here entry.line) (since a b) (since b c) p.lines q.lines);
-      files = omega (arith, p.files, q.files);
-      entropy = omega (arith, p.entropy, q.entropy);
-      kinds = subst (AllByRecursion (λ (entry : FoundEntry). is_key entry.what || is_seed entry.what ≡ true)) (sym whole)
-          (all_both (λ entry. is_key entry.what || is_seed entry.what ≡ true) (since a b) (since b c) p.kinds q.kinds);
-      keys = subst (λ n. RoseBy n f0 f2) (sym (ap keys_in whole ∙ count_both is_key (since a b) (since b c))) (Rose-apart f0 f1 f2 (keys_in (since a b)) (keys_in (since b c)) p.files q.files p.keys q.keys);
-      seeds = subst (λ n. RoseBy n e0 e2) (sym (ap seeds_in whole ∙ count_both is_seed (since a b) (since b c))) (Rose-apart e0 e1 e2 (seeds_in (since a b)) (seeds_in (since b c)) p.entropy q.entropy p.seeds q.seeds);
+      order = order;
+      lines = all_both (λ taking. here taking.entry.line) xs ys p.lines q.lines;
+      kinds = all_both (λ taking. is_fetch taking.entry.what || is_fill taking.entry.what ≡ true) xs ys p.kinds q.kinds;
+      found = q.found ∙ ap (λ es. es ++ failures ys) p.found ∙ append_assoc a.found (failures xs) (failures ys) ∙ ap (λ es. a.found ++ es) (sym (failures_both xs ys));
+      files = q.files ∙ p.files;
+      entropy = subst (λ (bs : List Bool). IfSome a.entropy (λ left. c.entropy ≡ Some (left_after bs left))) (sym fills) (left_more a.entropy b.entropy c.entropy (fills_of xs) (fills_of ys) p.entropy q.entropy);
+      fetches = subst (λ (bs : List Bool). Called bs a.fetches c.fetches) (sym fetches) (called_more (fetches_of xs) (fetches_of ys) a.fetches b.fetches c.fetches p.fetches q.fetches);
+      fills = subst (λ (bs : List Bool). Called bs a.fills c.fills) (sym fills) (called_more (fills_of xs) (fills_of ys) a.fills b.fills c.fills p.fills q.fills);
+      fetch_fails = subst (λ (bs : List Bool). ListedAt a.fetches.made a.fetches.failing bs) (sym fetches)
+          (listed_more a.fetches.made b.fetches.made a.fetches.failing b.fetches.failing (fetches_of xs) (fetches_of ys) p.fetches.made p.fetches.failing p.fetch_fails q.fetch_fails);
+      fill_fails = subst (λ (bs : List Bool). ShortAt a.fills.made a.fills.failing a.entropy bs) (sym fills)
+          (short_more a.fills.made b.fills.made a.fills.failing b.fills.failing a.entropy b.entropy (fills_of xs) (fills_of ys) p.fills.made p.fills.failing p.entropy p.fill_fails q.fill_fails);
     }
 
-part_nothing : (here : ℕ → Type 0) (found : List FoundEntry) (f0 f1 e0 e1 : ℕ) → f0 ≤ f1 → e0 ≤ e1 → Part here found found f0 f1 e0 e1
-part_nothing here found f0 f1 e0 e1 files entropy =
-    let none : [] ≡ since found found = sym (since_none found) in
-    record {
-      grew = ([], sym (append-nil found));
-      lines = subst (AllByRecursion (λ (entry : FoundEntry). here entry.line)) none tt;
-      files = files;
-      entropy = entropy;
-      kinds = subst (AllByRecursion (λ (entry : FoundEntry). is_key entry.what || is_seed entry.what ≡ true)) none tt;
-      keys = subst (λ (found : List FoundEntry). RoseBy (keys_in found) f0 f1) none (omega (arith, files));
-      seeds = subst (λ (found : List FoundEntry). RoseBy (seeds_in found) e0 e1) none (omega (arith, entropy));
-    }
-
-part_key : (n : ℕ) (what : FoundKind) → is_key what ≡ true → is_seed what ≡ false → (a b : List FoundEntry) (f0 f1 e : ℕ) → b ≡ a ++ entry_of n what ∷ [] → f0 ≤ f1 → Rose f0 f1 → Part (λ line. line ≡ n) a b f0 f1 e e
-part_key n what key no_seed a b f0 f1 e listed later rose =
-    let one : entry_of n what ∷ [] ≡ since a b = sym (since_more a (entry_of n what ∷ []) b listed) in
-    record {
-      grew = (entry_of n what ∷ [], listed);
-      lines = subst (AllByRecursion (λ (entry : FoundEntry). entry.line ≡ n)) one (refl, tt);
-      files = later;
-      entropy = omega arith;
-      kinds = subst (AllByRecursion (λ (entry : FoundEntry). is_key entry.what || is_seed entry.what ≡ true)) one (rw key refl, tt);
-      keys = subst (λ (found : List FoundEntry). RoseBy (keys_in found) f0 f1) one (rw key (omega (arith, rose)));
-      seeds = subst (λ (found : List FoundEntry). RoseBy (seeds_in found) e e) one (rw no_seed (omega arith));
-    }
-
-part_seed : (n : ℕ) (a b : List FoundEntry) (f e0 e1 : ℕ) → b ≡ a ++ entry_of n Seed ∷ [] → e0 ≤ e1 → Rose e0 e1 → Part (λ line. line ≡ n) a b f f e0 e1
-part_seed n a b f e0 e1 listed later rose =
-    let one : entry_of n Seed ∷ [] ≡ since a b = sym (since_more a (entry_of n Seed ∷ []) b listed) in
-    record {
-      grew = (entry_of n Seed ∷ [], listed);
-      lines = subst (AllByRecursion (λ (entry : FoundEntry). entry.line ≡ n)) one (refl, tt);
-      files = omega arith;
-      entropy = later;
-      kinds = subst (AllByRecursion (λ (entry : FoundEntry). is_key entry.what || is_seed entry.what ≡ true)) one (refl, tt);
-      keys = subst (λ (found : List FoundEntry). RoseBy (keys_in found) f f) one (omega arith);
-      seeds = subst (λ (found : List FoundEntry). RoseBy (seeds_in found) e0 e1) one (omega (arith, rose));
-    }
-
-part_same : (here : ℕ → Type 0) (a b : List FoundEntry) (f0 f1 e0 e1 : ℕ) → b ≡ a ++ [] → f0 ≤ f1 → e0 ≤ e1 → Part here a b f0 f1 e0 e1
-part_same here a b f0 f1 e0 e1 listed files entropy = subst (λ (b : List FoundEntry). Part here a b f0 f1 e0 e1) (sym (listed ∙ append-nil a)) (part_nothing here a f0 f1 e0 e1 files entropy)
-
--- what one fetch lists, and one fill
-part_fetch : {E : Type 0} (n : ℕ) (what : FoundKind) → is_key what ≡ true → is_seed what ≡ false → (r : Result Fetched E) (a b : List FoundEntry) (f0 f1 e : ℕ) → b ≡ a ++ listed_fetch n what r → f0 ≤ f1
-    → IfOk r (λ fetched. fetched ≡ fetches.Fault → Rose f0 f1) → Part (λ line. line ≡ n) a b f0 f1 e e
-part_fetch n what key no_seed (Err stop) a b f0 f1 e listed later rose = part_same (λ line. line ≡ n) a b f0 f1 e e listed later (omega arith)
-part_fetch n what key no_seed (Ok fetches.NotAsked) a b f0 f1 e listed later rose = part_same (λ line. line ≡ n) a b f0 f1 e e listed later (omega arith)
-part_fetch n what key no_seed (Ok (fetches.Got material)) a b f0 f1 e listed later rose = part_same (λ line. line ≡ n) a b f0 f1 e e listed later (omega arith)
-part_fetch n what key no_seed (Ok fetches.Missing) a b f0 f1 e listed later rose = part_same (λ line. line ≡ n) a b f0 f1 e e listed later (omega arith)
-part_fetch n what key no_seed (Ok fetches.Fault) a b f0 f1 e listed later rose = part_key n what key no_seed a b f0 f1 e listed later (rose refl)
-
-part_fill : {E : Type 0} (n : ℕ) (r : Result SeedGot E) (a b : List FoundEntry) (f e0 e1 : ℕ) → b ≡ a ++ listed_fill n r → e0 ≤ e1
-    → IfOk r (λ seed. seed ≡ seeds.Fault → Rose e0 e1) → Part (λ line. line ≡ n) a b f f e0 e1
-part_fill n (Err stop) a b f e0 e1 listed later rose = part_same (λ line. line ≡ n) a b f f e0 e1 listed (omega arith) later
-part_fill n (Ok seeds.NotAsked) a b f e0 e1 listed later rose = part_same (λ line. line ≡ n) a b f f e0 e1 listed (omega arith) later
-part_fill n (Ok (seeds.Got seed)) a b f e0 e1 listed later rose = part_same (λ line. line ≡ n) a b f f e0 e1 listed (omega arith) later
-part_fill n (Ok seeds.Fault) a b f e0 e1 listed later rose = part_seed n a b f e0 e1 listed later (rose refl)
-
-order_both : (first second : ℕ → Type 0) (xs ys : List FoundEntry) → ((m k : ℕ) → first m → second k → m < k) → AllByRecursion (λ entry. first entry.line) xs → AllByRecursion (λ entry. second entry.line) ys
-    → AreInOrder xs → AreInOrder ys → AreInOrder (xs ++ ys)
-order_both first second [] ys apart p q xs_order ys_order = ys_order
-order_both first second (entry ∷ xs) ys apart p q xs_order ys_order = (
-  all_both (IsBefore entry) xs ys xs_order.0 (all_weaker (λ later. second later.line) (IsBefore entry) ys (λ later at_line. inl (apart entry.line later.line p.0 at_line)) q),
-  order_both first second xs ys apart p.1 q xs_order.1 ys_order,
+-- takings of which each of the first stands before each of the second
+pub order_both : (P Q : Taking → Type 0) (xs ys : List Taking) → ((x y : Taking) → P x → Q y → IsBefore x.entry y.entry) → AllByRecursion P xs → AllByRecursion Q ys
+    → AreInOrder (entries_made xs) → AreInOrder (entries_made ys) → AreInOrder (entries_made (xs ++ ys))
+order_both P Q [] ys apart p q xs_order ys_order = ys_order
+order_both P Q (taking ∷ xs) ys apart p q xs_order ys_order = (
+  subst (AllByRecursion (IsBefore taking.entry)) (sym (entries_both xs ys))
+  (all_both (IsBefore taking.entry) (entries_made xs) (entries_made ys) xs_order.0
+  (all_entries (IsBefore taking.entry) ys (all_weaker Q (λ later. IsBefore taking.entry later.entry) ys (λ later at_line. apart taking later p.0 at_line) q))),
+  order_both P Q xs ys apart p.1 q xs_order.1 ys_order,
 )
 
--- takings of earlier lines, and then those of later ones
-pub lists_more : (first second here : ℕ → Type 0) (a b c : List FoundEntry) (f0 f1 f2 e0 e1 e2 : ℕ) → ((m : ℕ) → first m → here m) → ((m : ℕ) → second m → here m) → ((m k : ℕ) → first m → second k → m < k)
-    → Lists first a b f0 f1 e0 e1 → Lists second b c f1 f2 e1 e2 → Lists here a c f0 f2 e0 e2
-lists_more first second here a b c f0 f1 f2 e0 e1 e2 from_first from_second apart p q =
-    whole_of here a c f0 f2 e0 e2
-    (part_more here a b c f0 f1 f2 e0 e1 e2
-    (part_weaker first here a b f0 f1 e0 e1 from_first (part_of first a b f0 f1 e0 e1 p))
-    (part_weaker second here b c f1 f2 e1 e2 from_second (part_of second b c f1 f2 e1 e2 q)))
-    (subst AreInOrder (sym (since_both a b c p.grew q.grew)) (order_both first second (since a b) (since b c) apart p.lines q.lines p.order q.order))
+pub takes_more : (first second here : ℕ → Type 0) (xs ys : List Taking) (a b c : Outer) → ((m : ℕ) → first m → here m) → ((m : ℕ) → second m → here m) → ((m k : ℕ) → first m → second k → m < k)
+    → Takes first xs a b → Takes second ys b c → Takes here (xs ++ ys) a c
+takes_more first second here xs ys a b c from_first from_second apart p q =
+    takes_both here xs ys a b c
+    (order_both (λ taking. first taking.entry.line) (λ taking. second taking.entry.line) xs ys (λ x y at_first at_second. inl (apart x.entry.line y.entry.line at_first at_second)) p.lines q.lines p.order q.order)
+    (takes_weaker first here xs a b from_first p) (takes_weaker second here ys b c from_second q)
 
-pub lists_weaker : (here there : ℕ → Type 0) (a b : List FoundEntry) (f0 f1 e0 e1 : ℕ) → ((m : ℕ) → here m → there m) → Lists here a b f0 f1 e0 e1 → Lists there a b f0 f1 e0 e1
-lists_weaker here there a b f0 f1 e0 e1 weaker p = whole_of there a b f0 f1 e0 e1 (part_weaker here there a b f0 f1 e0 e1 weaker (part_of here a b f0 f1 e0 e1 p)) p.order
+-- ---- one taking
 
--- where no count rose, nothing is listed
-pub none_listed : (here : ℕ → Type 0) (found : List FoundEntry) (f0 f1 e0 e1 : ℕ) → Lists here [] found f0 f1 e0 e1 → (Rose f0 f1 → ⊥) → (Rose e0 e1 → ⊥) → found ≡ []
-none_listed here [] f0 f1 e0 e1 p files entropy = refl
-none_listed here (entry ∷ found) f0 f1 e0 e1 p files entropy = absurd (by_kind (is_key entry.what) (is_seed entry.what) p.kinds.0 p.keys p.seeds) where
-  by_kind : (key seed : Bool) → key || seed ≡ true → RoseBy (if key then keys_in found + 1 else keys_in found) f0 f1 → RoseBy (if seed then seeds_in found + 1 else seeds_in found) e0 e1 → ⊥
-  by_kind true seed some keys seeds = files (omega (arith, keys))
-  by_kind false true some keys seeds = entropy (omega (arith, seeds))
-  by_kind false false some keys seeds = absurd (cc)
+-- what one taking does to the list
+abbrev pub ListsOne : FoundEntry → Bool → (old new : List FoundEntry) → Type 0
+ListsOne entry fails old new = new ≡ old ++ (if fails then entry ∷ [] else [])
 
--- ---- what a list says of a line
+listed_once : (made : Option ℕ) (failing : Option (List ℕ)) (fails : Bool) → IfSome (next_listed made failing) (λ listed. fails ≡ listed) → ListedAt made failing (fails ∷ [])
+listed_once None failing fails p = tt
+listed_once (Some n) None fails p = tt
+listed_once (Some n) (Some listed) fails p = (p, tt)
 
-same_line : (n : ℕ) → (n == n) ≡ true
-same_line n = grind (arith, nat_tests)
+short_once : (made : Option ℕ) (failing entropy : Option (List ℕ)) (fails : Bool) → IfSome (fill_fails entropy (next_listed made failing)) (λ known. fails ≡ known) → ShortAt made failing entropy (fails ∷ [])
+short_once None failing entropy fails p = tt
+short_once (Some n) None entropy fails p = tt
+short_once (Some n) (Some listed) None fails p = tt
+short_once (Some n) (Some listed) (Some left) fails p = (by_case (is_listed listed n) p, tt) where
+  by_case : (b : Bool) → IfSome (fill_fails (Some left) (Some b)) (λ known. fails ≡ known) → fails ≡ b || is_short left
+  by_case true q = q
+  by_case false q = q
 
-other_line : (m n : ℕ) → (m ≡ n → ⊥) → (m == n) ≡ false
-other_line m n apart = grind (arith, nat_tests)
-
-listed_both : (n : ℕ) (is_kind : FoundKind → Bool) (xs ys : List FoundEntry) → is_listed n is_kind (xs ++ ys) ≡ is_listed n is_kind xs || is_listed n is_kind ys
-listed_both n is_kind [] ys = refl
-listed_both n is_kind (entry ∷ xs) ys = by_first (listed_both n is_kind xs ys) (entry.line == n && is_kind entry.what) where
-  by_first : is_listed n is_kind (xs ++ ys) ≡ is_listed n is_kind xs || is_listed n is_kind ys → (b : Bool) → b || is_listed n is_kind (xs ++ ys) ≡ (b || is_listed n is_kind xs) || is_listed n is_kind ys
-  by_first rest true = refl
-  by_first rest false = rest
-
-not_listed : (n : ℕ) (is_kind : FoundKind → Bool) (xs : List FoundEntry) → AllByRecursion (λ entry. entry.line ≡ n → ⊥) xs → is_listed n is_kind xs ≡ false
-not_listed n is_kind [] apart = refl
-not_listed n is_kind (entry ∷ xs) apart = rw (other_line entry.line n apart.0) (not_listed n is_kind xs apart.1)
-
--- of two parts, one of which says nothing of the line
-pub failing_first : (n : ℕ) (xs ys : List FoundEntry) → AllByRecursion (λ entry. entry.line ≡ n → ⊥) ys → failing n (xs ++ ys) ≡ failing n xs
-failing_first n xs ys apart = rw (one is_old_key, one is_new_key, one is_seed) refl where
-  or_none : (b : Bool) → b || false ≡ b
-  or_none true = refl
-  or_none false = refl
-
-  one : (is_kind : FoundKind → Bool) → is_listed n is_kind (xs ++ ys) ≡ is_listed n is_kind xs
-  one is_kind = listed_both n is_kind xs ys ∙ ap (λ b. is_listed n is_kind xs || b) (not_listed n is_kind ys apart) ∙ or_none (is_listed n is_kind xs)
-
-pub failing_second : (n : ℕ) (xs ys : List FoundEntry) → AllByRecursion (λ entry. entry.line ≡ n → ⊥) xs → failing n (xs ++ ys) ≡ failing n ys
-failing_second n xs ys apart = rw (one is_old_key, one is_new_key, one is_seed) refl where
-  one : (is_kind : FoundKind → Bool) → is_listed n is_kind (xs ++ ys) ≡ is_listed n is_kind ys
-  one is_kind = listed_both n is_kind xs ys ∙ ap (λ b. b || is_listed n is_kind ys) (not_listed n is_kind xs apart)
-
-pub failing_none : (n : ℕ) (xs : List FoundEntry) → AllByRecursion (λ entry. entry.line ≡ n → ⊥) xs → failing n xs ≡ failing n []
-failing_none n xs apart = failing_first n [] xs apart
-
--- ---- a kit
-
-one_if : Bool → ℕ → FoundKind → List FoundEntry
-one_if b n what = if b then entry_of n what ∷ [] else []
-
-failing_bits : (n : ℕ) (a b c : Bool) → failing n (one_if a n OldKey ++ one_if b n NewKey ++ one_if c n Seed) ≡ record { old_key = a; new_key = b; seed = c }
-unfolding one_if
-failing_bits n true true true = rw (same_line n) refl
-failing_bits n true true false = rw (same_line n) refl
-failing_bits n true false true = rw (same_line n) refl
-failing_bits n true false false = rw (same_line n) refl
-failing_bits n false true true = rw (same_line n) refl
-failing_bits n false true false = rw (same_line n) refl
-failing_bits n false false true = rw (same_line n) refl
-failing_bits n false false false = refl
-
-pub fetch_bit : {E : Type 0} → Result Fetched E → Bool
-fetch_bit (Ok fetched) = is_fault fetched
-fetch_bit (Err stop) = false
-
-pub fill_bit : {E : Type 0} → Result SeedGot E → Bool
-fill_bit (Ok seed) = is_seed_fault seed
-fill_bit (Err stop) = false
-
-fetch_lists : {E : Type 0} (n : ℕ) (what : FoundKind) (r : Result Fetched E) → listed_fetch n what r ≡ one_if (fetch_bit r) n what
-unfolding one_if fetch_bit
-fetch_lists n what (Err stop) = refl
-fetch_lists n what (Ok fetches.NotAsked) = refl
-fetch_lists n what (Ok (fetches.Got material)) = refl
-fetch_lists n what (Ok fetches.Missing) = refl
-fetch_lists n what (Ok fetches.Fault) = refl
-
-fill_lists : {E : Type 0} (n : ℕ) (r : Result SeedGot E) → listed_fill n r ≡ one_if (fill_bit r) n Seed
-unfolding one_if fill_bit
-fill_lists n (Err stop) = refl
-fill_lists n (Ok seeds.NotAsked) = refl
-fill_lists n (Ok (seeds.Got seed)) = refl
-fill_lists n (Ok seeds.Fault) = refl
-
--- what three takings list
-pub record Three {E : Type 0} (n : ℕ) (a d : List FoundEntry) (old new : Result Fetched E) (seed : Result SeedGot E) : Type 0 where
-  pub all : d ≡ a ++ (listed_fetch n OldKey old ++ listed_fetch n NewKey new ++ listed_fill n seed)
-  pub bits : failing_since n a d ≡ record { old_key = fetch_bit old; new_key = fetch_bit new; seed = fill_bit seed }
-
-pub three : {E : Type 0} (n : ℕ) (a b c d : List FoundEntry) (old new : Result Fetched E) (seed : Result SeedGot E) → b ≡ a ++ listed_fetch n OldKey old → c ≡ b ++ listed_fetch n NewKey new → d ≡ c ++ listed_fill n seed
-    → Three n a d old new seed
-three n a b c d old new seed p q r =
-    let A = listed_fetch n OldKey old in
-    let B = listed_fetch n NewKey new in
-    let C = listed_fill n seed in
-    let all : d ≡ a ++ (A ++ B ++ C) = r ∙ ap (λ xs. xs ++ C) (q ∙ ap (λ xs. xs ++ B) p ∙ append_assoc a A B) ∙ append_assoc a (A ++ B) C in
+-- a fetch
+takes_fetch_of : (line part : ℕ) (what : FoundKind) → is_fetch what ≡ true → is_fill what ≡ false → (fails : Bool) (old new : Outer) → IsCalled (next_listed old.fetches.made old.fetches.failing) fails old.fetches new.fetches
+    → new.files ≡ old.files → new.entropy ≡ old.entropy → new.fills ≡ old.fills → ListsOne record { line = line; part = part; what = what } fails old.found new.found
+    → Takes (λ m. m ≡ line) (taking_with record { line = line; part = part; what = what } fails ∷ []) old new
+takes_fetch_of line part what fetch no_fill fails old new called files entropy fills found =
+    let one : (fetches_of (taking_with record { line = line; part = part; what = what } fails ∷ [])) ≡ fails ∷ [] = rw fetch refl in
+    let none : (fills_of (taking_with record { line = line; part = part; what = what } fails ∷ [])) ≡ [] = rw no_fill refl in
     record {
-      all = all;
-      bits = ap (failing n) (since_more a (A ++ B ++ C) d all)
-          ∙ ap (λ xs. failing n (xs ++ B ++ C)) (fetch_lists n OldKey old)
-          ∙ ap (λ xs. failing n (one_if (fetch_bit old) n OldKey ++ xs ++ C)) (fetch_lists n NewKey new)
-          ∙ ap (λ xs. failing n (one_if (fetch_bit old) n OldKey ++ one_if (fetch_bit new) n NewKey ++ xs)) (fill_lists n seed)
-          ∙ failing_bits n (fetch_bit old) (fetch_bit new) (fill_bit seed);
-    }
+      order = (tt, tt);
+      lines = (refl, tt);
+      kinds = (rw fetch refl, tt);
+      found = found ∙ ap (λ es. old.found ++ es) (by_case fails);
+      files = files;
+      entropy = subst (λ (bs : List Bool). IfSome old.entropy (λ left. new.entropy ≡ Some (left_after bs left))) (sym none) (subst (λ (e : Option (List ℕ)). IfSome old.entropy (λ left. e ≡ Some (left_after [] left))) (sym entropy) (same_left old.entropy));
+      fetches = subst (λ (bs : List Bool). Called bs old.fetches new.fetches) (sym one) (called_once (next_listed old.fetches.made old.fetches.failing) fails old.fetches new.fetches called);
+      fills = subst (λ (bs : List Bool). Called bs old.fills new.fills) (sym none) (subst (λ (calls : Calls). Called [] old.fills calls) (sym fills) (called_none old.fills));
+      fetch_fails = subst (λ (bs : List Bool). ListedAt old.fetches.made old.fetches.failing bs) (sym one) (listed_once old.fetches.made old.fetches.failing fails called.as_known);
+      fill_fails = subst (λ (bs : List Bool). ShortAt old.fills.made old.fills.failing old.entropy bs) (sym none) (none_short_at old.fills.made old.fills.failing old.entropy);
+    } where
+  by_case : (b : Bool) → (let entry : FoundEntry = record { line = line; part = part; what = what } in (if b then entry ∷ [] else [])) ≡ failures (taking_with record { line = line; part = part; what = what } b ∷ [])
+  by_case true = refl
+  by_case false = refl
 
-next_rank : (n a b : ℕ) → a < b → (n < n) ⊎ ((n ≡ n) × (a < b))
-next_rank n a b below = inr (refl, below)
+no_fill_of : (what : FoundKind) → is_fetch what ≡ true → is_fill what ≡ false
+no_fill_of OldKey fetch = refl
+no_fill_of NewKey fetch = refl
+no_fill_of Seed fetch = absurd (cc)
+no_fill_of (Streams puts) fetch = refl
+no_fill_of (Shelf family draws puts) fetch = refl
 
-order_bits : (n : ℕ) (a b c : Bool) → AreInOrder (one_if a n OldKey ++ one_if b n NewKey ++ one_if c n Seed)
-unfolding one_if
-order_bits n true true true = ((next_rank n 0 1 (omega arith), (next_rank n 0 2 (omega arith), tt)), ((next_rank n 1 2 (omega arith), tt), (tt, tt)))
-order_bits n true true false = ((next_rank n 0 1 (omega arith), tt), (tt, tt))
-order_bits n true false true = ((next_rank n 0 2 (omega arith), tt), (tt, tt))
-order_bits n true false false = (tt, tt)
-order_bits n false true true = ((next_rank n 1 2 (omega arith), tt), (tt, tt))
-order_bits n false true false = (tt, tt)
-order_bits n false false true = (tt, tt)
-order_bits n false false false = tt
+pub takes_fetch : (entry : FoundEntry) → is_fetch entry.what ≡ true → (fails : Bool) (old new : Outer) → IsCalled (next_listed old.fetches.made old.fetches.failing) fails old.fetches new.fetches
+    → new.files ≡ old.files → new.entropy ≡ old.entropy → new.fills ≡ old.fills → ListsOne entry fails old.found new.found → Takes (λ m. m ≡ entry.line) (taking_with entry fails ∷ []) old new
+takes_fetch entry fetch fails old new called files entropy fills found =
+    takes_fetch_of entry.line entry.part entry.what fetch (no_fill_of entry.what fetch) fails old new called files entropy fills found
 
--- a kit's takings, whether or not they are told
-pub lists_kit : {E : Type 0} (n : ℕ) (a b c d : List FoundEntry) (old new : Result Fetched E) (seed : Result SeedGot E) (f0 f1 f2 e0 e1 : ℕ) → b ≡ a ++ listed_fetch n OldKey old → c ≡ b ++ listed_fetch n NewKey new
-    → d ≡ c ++ listed_fill n seed → f0 ≤ f1 → f1 ≤ f2 → e0 ≤ e1 → IfOk old (λ fetched. fetched ≡ fetches.Fault → Rose f0 f1) → IfOk new (λ fetched. fetched ≡ fetches.Fault → Rose f1 f2)
-    → IfOk seed (λ got. got ≡ seeds.Fault → Rose e0 e1) → Lists (λ line. line ≡ n) a d f0 f2 e0 e1
-lists_kit n a b c d old new seed f0 f1 f2 e0 e1 p q r files_first files_second entropy rose_first rose_second rose_seed =
-    let here : ℕ → Type 0 = λ line. line ≡ n in
-    let all = three n a b c d old new seed p q r in
-    let bits : since a d ≡ one_if (fetch_bit old) n OldKey ++ one_if (fetch_bit new) n NewKey ++ one_if (fill_bit seed) n Seed =
-    since_more a (listed_fetch n OldKey old ++ listed_fetch n NewKey new ++ listed_fill n seed) d all.all
-    ∙ ap (λ xs. xs ++ listed_fetch n NewKey new ++ listed_fill n seed) (fetch_lists n OldKey old)
-    ∙ ap (λ xs. one_if (fetch_bit old) n OldKey ++ xs ++ listed_fill n seed) (fetch_lists n NewKey new)
-    ∙ ap (λ xs. one_if (fetch_bit old) n OldKey ++ one_if (fetch_bit new) n NewKey ++ xs) (fill_lists n seed) in
-    whole_of here a d f0 f2 e0 e1
-    (part_more here a c d f0 f2 f2 e0 e0 e1
-    (part_more here a b c f0 f1 f2 e0 e0 e0 (part_fetch n OldKey refl refl old a b f0 f1 e0 p files_first rose_first) (part_fetch n NewKey refl refl new b c f1 f2 e0 q files_second rose_second))
-    (part_fill n seed c d f2 e0 e1 r entropy rose_seed))
-    (subst AreInOrder (sym bits) (order_bits n (fetch_bit old) (fetch_bit new) (fill_bit seed)))
+-- a fill
+takes_fill_of : (line part : ℕ) (what : FoundKind) → is_fetch what ≡ false → is_fill what ≡ true → (fails : Bool) (old new : Outer) → IsCalled (fill_fails old.entropy (next_listed old.fills.made old.fills.failing)) fails old.fills new.fills
+    → new.files ≡ old.files → IfSome old.entropy (λ left. new.entropy ≡ Some (if fails then left else drop 32 left)) → new.fetches ≡ old.fetches → ListsOne record { line = line; part = part; what = what } fails old.found new.found
+    → Takes (λ m. m ≡ line) (taking_with record { line = line; part = part; what = what } fails ∷ []) old new
+takes_fill_of line part what no_fetch fill fails old new called files entropy fetches found =
+    let none : (fetches_of (taking_with record { line = line; part = part; what = what } fails ∷ [])) ≡ [] = rw no_fetch refl in
+    let one : (fills_of (taking_with record { line = line; part = part; what = what } fails ∷ [])) ≡ fails ∷ [] = rw fill refl in
+    record {
+      order = (tt, tt);
+      lines = (refl, tt);
+      kinds = (rw (no_fetch, fill) refl, tt);
+      found = found ∙ ap (λ es. old.found ++ es) (by_case fails);
+      files = files;
+      entropy = subst (λ (bs : List Bool). IfSome old.entropy (λ left. new.entropy ≡ Some (left_after bs left))) (sym one) entropy;
+      fetches = subst (λ (bs : List Bool). Called bs old.fetches new.fetches) (sym none) (subst (λ (calls : Calls). Called [] old.fetches calls) (sym fetches) (called_none old.fetches));
+      fills = subst (λ (bs : List Bool). Called bs old.fills new.fills) (sym one) (called_once (fill_fails old.entropy (next_listed old.fills.made old.fills.failing)) fails old.fills new.fills called);
+      fetch_fails = subst (λ (bs : List Bool). ListedAt old.fetches.made old.fetches.failing bs) (sym none) (none_listed_at old.fetches.made old.fetches.failing);
+      fill_fails = subst (λ (bs : List Bool). ShortAt old.fills.made old.fills.failing old.entropy bs) (sym one) (short_once old.fills.made old.fills.failing old.entropy fails called.as_known);
+    } where
+  by_case : (b : Bool) → (let entry : FoundEntry = record { line = line; part = part; what = what } in (if b then entry ∷ [] else [])) ≡ failures (taking_with record { line = line; part = part; what = what } b ∷ [])
+  by_case true = refl
+  by_case false = refl
 
-no_fault_fetch : (n : ℕ) (what : FoundKind) (told : List (List ℕ × List ℕ)) (place : Option Location) → failed_fetch n what (material_at false told place) ≡ []
-no_fault_fetch n what told None = refl
-no_fault_fetch n what told (Some Prompt) = refl
-no_fault_fetch n what told (Some (File path)) = by_found (fetched path told) where
-  by_found : (there : Option (List ℕ)) → failed_fetch n what (material_of there) ≡ []
-  by_found None = refl
-  by_found (Some bytes) = refl
+no_fetch_of : (what : FoundKind) → is_fill what ≡ true → is_fetch what ≡ false
+no_fetch_of OldKey fill = absurd (cc)
+no_fetch_of NewKey fill = absurd (cc)
+no_fetch_of Seed fill = refl
+no_fetch_of (Streams puts) fill = refl
+no_fetch_of (Shelf family draws puts) fill = refl
 
-no_fault_fill : (n : ℕ) (left : List ℕ) (needed : Bool) → failed_fill n (seed_from false left needed) ≡ []
-no_fault_fill n left true = refl
-no_fault_fill n left false = refl
+pub takes_fill : (entry : FoundEntry) → is_fill entry.what ≡ true → (fails : Bool) (old new : Outer) → IsCalled (fill_fails old.entropy (next_listed old.fills.made old.fills.failing)) fails old.fills new.fills
+    → new.files ≡ old.files → IfSome old.entropy (λ left. new.entropy ≡ Some (if fails then left else drop 32 left)) → new.fetches ≡ old.fetches → ListsOne entry fails old.found new.found
+    → Takes (λ m. m ≡ entry.line) (taking_with entry fails ∷ []) old new
+takes_fill entry fill fails old new called files entropy fetches found =
+    takes_fill_of entry.line entry.part entry.what (no_fetch_of entry.what fill) fill fails old new called files entropy fetches found
 
--- a kit without a fault lists nothing
-pub quiet_kit : (n m : ℕ) (told : List (List ℕ × List ℕ)) (left : List ℕ) (wants : Wanted) → failed_takings n (kit_of (failing m []) told left wants) ≡ []
-quiet_kit n m told left wants = rw (no_fault_fetch n OldKey told wants.old_place, no_fault_fetch n NewKey told wants.new_place, no_fault_fill n left wants.seed) refl
+-- ---- a list that agrees with what was taken
 
-same_fetch : {E : Type 0} (n : ℕ) (what : FoundKind) (told : List (List ℕ × List ℕ)) (place : Option Location) (r : Result Fetched E) → IfOk r (λ fetched. fetched ≡ material_at (is_fault fetched) told place)
-    → failed_fetch n what (material_at (fetch_bit r) told place) ≡ listed_fetch n what r
-unfolding fetch_bit
-same_fetch n what told place (Ok fetched) same = ap (failed_fetch n what) (sym same)
-same_fetch n what told place (Err stop) same = no_fault_fetch n what told place
+same_number_of : (m n : ℕ) → m ≡ n → (m == n) ≡ true
+same_number_of m n same = grind (arith, nat_tests)
 
-same_fill : {E : Type 0} (n : ℕ) (left : List ℕ) (needed : Bool) (r : Result SeedGot E) → IfOk r (λ seed. seed ≡ seed_from (is_seed_fault seed) left needed)
-    → failed_fill n (seed_from (fill_bit r) left needed) ≡ listed_fill n r
-unfolding fill_bit
-same_fill n left needed (Ok seed) same = ap (failed_fill n) (sym same)
-same_fill n left needed (Err stop) same = no_fault_fill n left needed
+other_number : (m n : ℕ) → (m ≡ n → ⊥) → (m == n) ≡ false
+other_number m n apart = grind (arith, nat_tests)
 
--- where told, the takings that are listed are those of the kit that the list gives
-pub takings_told : {E : Type 0} (n : ℕ) (a b c d : List FoundEntry) (old new : Result Fetched E) (seed : Result SeedGot E) (f0 f1 : Option (List (List ℕ × List ℕ))) (e0 : Option (List ℕ)) (wants : Wanted)
-    → b ≡ a ++ listed_fetch n OldKey old → c ≡ b ++ listed_fetch n NewKey new → d ≡ c ++ listed_fill n seed
-    → IfOk old (λ fetched. IfSome f0 (λ told. fetched ≡ material_at (is_fault fetched) told wants.old_place)) → f1 ≡ f0
-    → IfOk new (λ fetched. IfSome f1 (λ told. fetched ≡ material_at (is_fault fetched) told wants.new_place))
-    → IfOk seed (λ got. IfSome e0 (λ left. got ≡ seed_from (is_seed_fault got) left wants.seed))
-    → IfSome f0 (λ told. IfSome e0 (λ left. d ≡ a ++ failed_takings n (kit_of (failing_since n a d) told left wants)))
-takings_told n a b c d old new seed None f1 e0 wants p q r x kept y z = tt
-takings_told n a b c d old new seed (Some told) f1 None wants p q r x kept y z = tt
-takings_told n a b c d old new seed (Some told) f1 (Some left) wants p q r x kept y z =
-    let here : Three n a d old new seed = three n a b c d old new seed p q r in
-    let Second : Option (List (List ℕ × List ℕ)) → Type 0 = λ f. IfOk new (λ fetched. IfSome f (λ told. fetched ≡ material_at (is_fault fetched) told wants.new_place)) in
-    let later : IfOk new (λ fetched. fetched ≡ material_at (is_fault fetched) told wants.new_place) = subst Second kept y in
-    here.all ∙ ap (λ xs. a ++ xs) (sym (
-    ap (λ (fails : Failing). failed_takings n (kit_of fails told left wants)) here.bits
-    ∙ ap (λ xs. xs ++ failed_fetch n NewKey (material_at (fetch_bit new) told wants.new_place) ++ failed_fill n (seed_from (fill_bit seed) left wants.seed)) (same_fetch n OldKey told wants.old_place old x)
-    ∙ ap (λ xs. listed_fetch n OldKey old ++ xs ++ failed_fill n (seed_from (fill_bit seed) left wants.seed)) (same_fetch n NewKey told wants.new_place new later)
-    ∙ ap (λ xs. listed_fetch n OldKey old ++ listed_fetch n NewKey new ++ xs) (same_fill n left wants.seed seed z)))
+-- whether two entries are of one taking
+abbrev is_same : FoundEntry → FoundEntry → Bool
+is_same entry other = other.line == entry.line && other.part == entry.part && rank other.what == rank entry.what
 
--- the kit itself
-pub kit_told : (n : ℕ) (a b c d : List FoundEntry) (old new : Fetched) (seed : SeedGot) (f0 f1 : Option (List (List ℕ × List ℕ))) (e0 : Option (List ℕ)) (wants : Wanted)
-    → b ≡ a ++ failed_fetch n OldKey old → c ≡ b ++ failed_fetch n NewKey new → d ≡ c ++ failed_fill n seed
-    → IfSome f0 (λ told. old ≡ material_at (is_fault old) told wants.old_place) → f1 ≡ f0 → IfSome f1 (λ told. new ≡ material_at (is_fault new) told wants.new_place)
-    → IfSome e0 (λ left. seed ≡ seed_from (is_seed_fault seed) left wants.seed)
-    → IfSome f0 (λ told. IfSome e0 (λ left. (let kit : LineKit = record { old_key = old; new_key = new; seed = seed } in kit) ≡ kit_of (failing_since n a d) told left wants))
-unfolding fetch_bit fill_bit
-kit_told n a b c d old new seed None f1 e0 wants p q r x kept y z = tt
-kit_told n a b c d old new seed (Some told) f1 None wants p q r x kept y z = tt
-kit_told n a b c d old new seed (Some told) f1 (Some left) wants p q r x kept y z =
-    let here = three {E = Unit {0}} n a b c d (Ok old) (Ok new) (Ok seed) p q r in
-    let bits : failing_since n a d ≡ record { old_key = is_fault old; new_key = is_fault new; seed = is_seed_fault seed } = here.bits in
-    let Second : Option (List (List ℕ × List ℕ)) → Type 0 = λ f. IfSome f (λ told. new ≡ material_at (is_fault new) told wants.new_place) in
-    let later : new ≡ material_at (is_fault new) told wants.new_place = subst Second kept y in
-    ap (λ m. let kit : LineKit = record { old_key = m; new_key = new; seed = seed } in kit) x
-    ∙ ap (λ m. let kit : LineKit = record { old_key = material_at (is_fault old) told wants.old_place; new_key = m; seed = seed } in kit) later
-    ∙ ap (λ m. let kit : LineKit = record { old_key = material_at (is_fault old) told wants.old_place; new_key = material_at (is_fault new) told wants.new_place; seed = m } in kit) z
-    ∙ ap (λ (fails : Failing). kit_of fails told left wants) (sym bits)
+is_same-self : (entry : FoundEntry) → is_same entry entry ≡ true
+is_same-self entry = rw (same_number_of entry.line entry.line refl, same_number_of entry.part entry.part refl, same_number_of (rank entry.what) (rank entry.what) refl) refl
 
-pub left_told : (n : ℕ) (a b c d : List FoundEntry) (old new : Fetched) (seed : SeedGot) (e0 e1 : Option (List ℕ)) (needed : Bool)
-    → b ≡ a ++ failed_fetch n OldKey old → c ≡ b ++ failed_fetch n NewKey new → d ≡ c ++ failed_fill n seed
-    → IfSome e0 (λ left. e1 ≡ Some (entropy_left (is_seed_fault seed) left needed)) → IfSome e0 (λ left. e1 ≡ Some (entropy_left (failing_since n a d).seed left needed))
-unfolding fetch_bit fill_bit
-left_told n a b c d old new seed None e1 needed p q r left = tt
-left_told n a b c d old new seed (Some entropy) e1 needed p q r left =
-    let here = three {E = Unit {0}} n a b c d (Ok old) (Ok new) (Ok seed) p q r in
-    let bits : failing_since n a d ≡ record { old_key = is_fault old; new_key = is_fault new; seed = is_seed_fault seed } = here.bits in
-    left ∙ ap (λ (fails : Failing). Some (entropy_left fails.seed entropy needed)) (sym bits)
+and_false : (a b c : Bool) → (a ≡ false) ⊎ ((b ≡ false) ⊎ (c ≡ false)) → (a && b && c) ≡ false
+and_false false b c p = refl
+and_false true false c p = refl
+and_false true true false p = refl
+and_false true true true p = absurd (⊎_elim (λ e. cc) (λ q. ⊎_elim (λ e. cc) (λ e. cc) q) p)
+
+is_same-before : (entry other : FoundEntry) → IsBefore entry other → (is_same entry other ≡ false) × (is_same other entry ≡ false)
+is_same-before entry other before = (
+  and_false _ _ _ (⊎_elim (λ line. inl (other_number other.line entry.line (λ e. omega (arith, line, e))))
+  (λ later. ⊎_elim (λ part. inr (inl (other_number other.part entry.part (λ e. omega (arith, part, e)))))
+  (λ kind. inr (inr (other_number (rank other.what) (rank entry.what) (λ e. omega (arith, kind.1, e))))) later.1) before),
+  and_false _ _ _ (⊎_elim (λ line. inl (other_number entry.line other.line (λ e. omega (arith, line, e))))
+  (λ later. ⊎_elim (λ part. inr (inl (other_number entry.part other.part (λ e. omega (arith, part, e)))))
+  (λ kind. inr (inr (other_number (rank entry.what) (rank other.what) (λ e. omega (arith, kind.1, e))))) later.1) before),
+)
+
+-- what stands before all takings has no entry among their failures
+none_before : (entry : FoundEntry) (made : List Taking) → AllByRecursion (IsBefore entry) (entries_made made) → has_entry entry (failures made) ≡ false
+none_before entry [] before = refl
+none_before entry (taking ∷ made) before = by_case (none_before entry made before.1) taking.fails where
+  by_case : has_entry entry (failures made) ≡ false → (b : Bool) → has_entry entry (if b then taking.entry ∷ failures made else failures made) ≡ false
+  by_case rest true = rw ((is_same-before entry taking.entry before.0).0, rest) refl
+  by_case rest false = rest
+
+agrees_behind : (first : FoundEntry) (fails : Bool) (entries : List FoundEntry) (made : List Taking) → AllByRecursion (IsBefore first) (entries_made made) → Agrees entries made → Agrees (if fails then first ∷ entries else entries) made
+agrees_behind first fails entries [] before agrees = tt
+agrees_behind first true entries (taking ∷ made) before agrees = (rw (is_same-before first taking.entry before.0).1 agrees.0, agrees_behind first true entries made before.1 agrees.1)
+agrees_behind first false entries (taking ∷ made) before agrees = agrees
+
+-- the failures of takings agree with them
+pub agrees_failures : (made : List Taking) → AreInOrder (entries_made made) → Agrees (failures made) made
+agrees_failures [] order = tt
+agrees_failures (taking ∷ made) order = (
+  by_case taking.fails,
+  agrees_behind taking.entry taking.fails (failures made) made order.0 (agrees_failures made order.1),
+) where
+  by_case : (b : Bool) → has_entry taking.entry (if b then taking.entry ∷ failures made else failures made) ≡ b
+  by_case true = rw (is_same-self taking.entry) refl
+  by_case false = none_before taking.entry made order.0
+
+-- a line's own entries say of its takings what the whole list says
+own_entry : (n : ℕ) (found : List FoundEntry) (entry : FoundEntry) → entry.line ≡ n → has_entry entry (entries_of n found) ≡ has_entry entry found
+own_entry n [] entry here = refl
+own_entry n (other ∷ found) entry here = by_case (own_entry n found entry here) (other.line == n) refl where
+  by_case : has_entry entry (entries_of n found) ≡ has_entry entry found → (b : Bool) → (other.line == n) ≡ b → has_entry entry (if b then other ∷ entries_of n found else entries_of n found) ≡ has_entry entry (other ∷ found)
+  by_case rest true same = ap (λ found_later. is_same entry other || found_later) rest
+  by_case rest false apart =
+      let line : (other.line == entry.line) ≡ false = rw here apart in
+      rw line rest
+
+pub agrees_own : (n : ℕ) (found : List FoundEntry) (made : List Taking) → AllByRecursion (λ taking. taking.entry.line ≡ n) made → Agrees found made → Agrees (entries_of n found) made
+agrees_own n found [] lines agrees = tt
+agrees_own n found (taking ∷ made) lines agrees = (own_entry n found taking.entry lines.0 ∙ agrees.0, agrees_own n found made lines.1 agrees.1)
+
+-- ---- the order
+
+pub no_part_before : (first second : FoundEntry) (later : List FoundEntry) → first.line ≡ second.line → second.part < first.part → AreInOrder (first ∷ second ∷ later) → ⊥
+no_part_before first second later line part order =
+    ⊎_elim (λ before. omega (arith, before, line)) (λ same. ⊎_elim (λ before. omega (arith, before, part)) (λ kind. omega (arith, kind.0, part)) same.1) order.0.0
+
+pub not_twice : (entry : FoundEntry) (later : List FoundEntry) → AreInOrder (entry ∷ entry ∷ later) → ⊥
+not_twice entry later order =
+    ⊎_elim (λ before. omega (arith, before)) (λ same. ⊎_elim (λ before. omega (arith, before)) (λ kind. omega (arith, kind.1)) same.1) order.0.0

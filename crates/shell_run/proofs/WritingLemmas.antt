@@ -1,10 +1,11 @@
 -- What a sink has taken, piece by piece.
-use Rattle.std.proofs.Common.{◌≡◌, ℕ, ◌-◌, List, [], ◌∷◌, ◌++◌, length, take, drop, Option, Some, None, refl, ap, sym, ◌∙◌, append_assoc, subst, arith}
+use Rattle.std.proofs.Common.{◌≡◌, ◌≢◌, ℕ, ◌-◌, List, [], ◌∷◌, ◌++◌, length, take, drop, Option, Some, None, refl, ap, sym, ◌∙◌, append_assoc, subst, arith}
 use Rattle.std.proofs.lemmas.Grind.{common_steps}
 use Rattle.std.specs.Io.KnownBytes.{Appends}
 use Rattle.std.proofs.lemmas.List.{take-append-drop}
 use Rattle.edge_io.specs.Told.{StillTold}
-use Rattle.shell_run.specs.Progress.{Took, TookFront}
+use Rattle.shell_run.specs.Progress.{TookCut}
+use Rattle.shell_run.specs.Ran.{Took}
 
 pub append_nil : (xs : List ℕ) → xs ≡ xs ++ []
 append_nil [] = refl
@@ -57,11 +58,11 @@ writing_more n bytes rest t0 t1 t2 w more =
       taken = Appends-append t0 t1 t2 w.done (take n rest) w.taken more;
     })
 
-pub writing_stopped : (bytes rest : List ℕ) (t0 t1 t2 : Option (List ℕ)) → Writing bytes rest t0 t1 → StillTold t1 t2 → TookFront bytes t0 t2
-writing_stopped bytes rest t0 t1 t2 w told = record {
+pub writing_stopped : (bytes rest : List ℕ) (t0 t1 t2 : Option (List ℕ)) → Writing bytes rest t0 t1 → rest ≢ [] → StillTold t1 t2 → TookCut bytes t0 t2
+writing_stopped bytes rest t0 t1 t2 w some told = record {
   part = w.done;
   taken = Took-kept t0 t1 t2 w.done w.taken told;
-  front = (rest, w.split);
+  is_cut = (rest, w.split, some);
 }
 
 pub writing_all : (bytes rest : List ℕ) (t0 t1 : Option (List ℕ)) → Writing bytes rest t0 t1 → rest ≡ [] → Appends t0 t1 bytes
@@ -70,5 +71,3 @@ writing_all bytes rest t0 t1 w none =
     let P : List ℕ → Type 0 = λ xs. Appends t0 t1 xs in
     subst P (sym all) w.taken
 
-pub TookFront-whole : (bytes : List ℕ) (t0 t1 : Option (List ℕ)) → Appends t0 t1 bytes → TookFront bytes t0 t1
-TookFront-whole bytes t0 t1 p = record { part = bytes; taken = Took-from_Appends t0 t1 bytes p; front = ([], append_nil bytes) }

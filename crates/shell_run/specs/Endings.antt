@@ -1,13 +1,11 @@
 -- How a run ends, and what the parts of the run say of it.
 use Rattle.std.specs.Prelude.{◌≡◌, ◌⊎◌, ℕ, ◌≤◌, List, []}
 use Rattle.std.specs.declared.option.Option.{Option}
-use Rattle.std.specs.declared.option.Option.TheVariants.{Some}
+use Rattle.std.specs.declared.option.Option.TheVariants.{Some, None}
 use Rattle.edge_io.specs.Faults.{Rose}
 use Rattle.shell_run.specs.declared.ending.Ending.{Ending}
 use Rattle.shell_run.specs.declared.ending.Ending.TheVariants.{Done, Usage, BadLine, ReadFault, WriteFault, NoMemory}
 use Rattle.shell_run.specs.Texts.{bad_line, usage_line, read_fault_line, no_memory_line}
-use Rattle.shell_run.specs.Transcript.{Run}
-use Rattle.shell_run.specs.Written.{IsFront}
 
 abbrev pub status_of : Ending → ℕ
 status_of Done = 0
@@ -26,30 +24,6 @@ closing_line ReadFault = read_fault_line
 closing_line WriteFault = []
 closing_line NoMemory = no_memory_line
 
--- a run that has this status, and these replies, last line and entropy
-pub record IsEnd (run : Run) (code : ℕ) (written line left : List ℕ) : Type 0 where
-  pub status : run.status ≡ code
-  pub replies : run.replies ≡ written
-  pub last : run.last ≡ line
-  pub entropy : run.entropy ≡ left
-
--- What the run was to do, where it ends so after these replies, with this entropy left: an answered run has all of them, any other
--- a front of them.
-abbrev pub EndsAs : Ending → Run → (replies entropy : List ℕ) → Type 0
-EndsAs Done run replies entropy = IsEnd run 0 replies [] entropy
-EndsAs Usage run replies entropy = IsEnd run 2 replies usage_line entropy
-EndsAs (BadLine number at) run replies entropy = IsEnd run 3 replies (bad_line number at) entropy
-EndsAs ReadFault run replies entropy = IsFront replies run.replies
-EndsAs WriteFault run replies entropy = IsFront replies run.replies
-EndsAs NoMemory run replies entropy = IsFront replies run.replies
-
--- Where the run is answered, this entropy is left.
-abbrev pub Leaves : Ending → (told : Option (List ℕ)) (entropy : List ℕ) → Type 0
-Leaves Done told entropy = told ≡ Some entropy
-Leaves Usage told entropy = told ≡ Some entropy
-Leaves (BadLine number at) told entropy = told ≡ Some entropy
-Leaves ending told entropy = Unit {0}
-
 -- The source's count of faults over a part of the run: it rose where a read failed, and else stayed.
 abbrev pub SourceFaults : Option Ending → ℕ → ℕ → Type 0
 SourceFaults (Some ReadFault) before now = (before ≤ now) × Rose before now
@@ -64,3 +38,13 @@ SinkFaults ending before now = now ≡ before
 abbrev pub ClosesAs : Ending → Ending → Type 0
 ClosesAs (BadLine number at) closed = (closed ≡ BadLine number at) ⊎ (closed ≡ NoMemory)
 ClosesAs ending closed = closed ≡ ending
+
+-- a line that was taken goes on, or ends the run only by what it holds, its reply or want of memory
+abbrev pub EndsInLine : Option Ending → Type 0
+EndsInLine None = Unit {0}
+EndsInLine (Some (BadLine number at)) = Unit {0}
+EndsInLine (Some WriteFault) = Unit {0}
+EndsInLine (Some NoMemory) = Unit {0}
+EndsInLine (Some Done) = ⊥
+EndsInLine (Some Usage) = ⊥
+EndsInLine (Some ReadFault) = ⊥

@@ -1,8 +1,8 @@
 pub mod Texts
-pub mod Failing
+pub mod Takings
+pub mod Outer
 pub mod Transcript
-pub mod Written
+pub mod Ran
 pub mod Answers
 pub mod Endings
 pub mod Progress
-pub mod Takings

@@ -2,58 +2,58 @@
 use Rattle.std.specs.Prelude.{Result, Ok, Err, ◌≡◌, ◌⊎◌, ℕ, ◌+◌, ◌<◌, ◌≤◌, List, [], ◌∷◌, ◌++◌, length, IfSome, IsSomeAnd}
 use Rattle.std.specs.declared.option.Option.{Option}
 use Rattle.std.specs.declared.option.Option.TheVariants.{Some, None}
-use Rattle.std.specs.Option.{option_map}
 use Rattle.std.specs.Io.KnownBytes.{Appends}
 use Rattle.edge_io.specs.Lines.{lines}
 use Rattle.shell_lines.specs.declared.line.Line.{Line}
 use Rattle.shell_run.specs.declared.ending.Ending.{Ending}
 use Rattle.shell_run.specs.declared.ending.Ending.TheVariants.{Done, Usage, BadLine, ReadFault, WriteFault, NoMemory}
-use Rattle.shell_run.specs.Endings.{EndsAs, Leaves}
 use Rattle.shell_run.specs.declared.found.FoundEntry.{FoundEntry}
-use Rattle.shell_run.specs.Failing.{Failing, failing}
-use Rattle.shell_run.specs.Transcript.{World, Run, preceded, run_from, answer_of}
-use Rattle.shell_run.specs.Written.{IsFront}
+use Rattle.shell_run.specs.Answers.{Agrees, HasTurn, HasAnswer, answer_takings}
+use Rattle.shell_run.specs.Endings.{status_of, closing_line}
+use Rattle.shell_run.specs.Outer.{Outer, Takes}
+use Rattle.shell_run.specs.Ran.{IsAnswered, IsFront, IsCut, Came, Closes, Took}
+use Rattle.shell_run.specs.Takings.{Taking}
+use Rattle.shell_run.specs.Transcript.{World, Run, Turn, Answer, Goes as TakesTurn, Ends as EndsRun, preceded, replies_of, made_in, run_from, answer_if}
 
--- The run is these replies, which the sink has taken, and then the rest.
-pub record Goes (run rest : Run) (before after : Option (List ℕ)) : Type 0 where
-  pub replies : List ℕ
-  pub taken : Appends before after replies
-  pub goes_on : run ≡ preceded replies rest
-
--- a sink that still tells its bytes has taken these
-abbrev pub Took : Option (List ℕ) → Option (List ℕ) → List ℕ → Type 0
-Took before after bytes = IfSome before (λ old. IfSome after (λ new. new ≡ old ++ bytes))
+-- The run is these turns, with these takings and with the replies that the sink has taken, and then the rest.
+pub record Goes (run rest : Run) (made : List Taking) (before after : Option (List ℕ)) : Type 0 where
+  pub turns : List Turn
+  pub goes_on : run ≡ preceded turns rest
+  pub taken : Appends before after (replies_of turns)
+  pub made_is : made ≡ made_in turns
 
 -- A sink that failed may tell nothing any more; else it tells what it has taken.
 abbrev pub Taken : Ending → Option (List ℕ) → Option (List ℕ) → List ℕ → Type 0
 Taken WriteFault before after bytes = Took before after bytes
 Taken ending before after bytes = Appends before after bytes
 
--- The run ends so, after the replies that the sink has taken, with the entropy that is told, and with these failed takings.
-pub record Ends (ending : Ending) (run : Run) (before after told : Option (List ℕ)) (found : List FoundEntry) : Type 0 where
+-- The run ends so, after these takings and the replies that the sink has taken.
+pub record Ends (ending : Ending) (run : Run) (made : List Taking) (before after : Option (List ℕ)) : Type 0 where
   pub replies : List ℕ
-  pub entropy : List ℕ
   pub taken : Taken ending before after replies
-  pub ends : EndsAs ending run replies entropy
-  pub leaves : Leaves ending told entropy
-  pub failed : run.failed ≡ found
+  pub came : Came run (status_of ending) replies made
+  pub last : IsAnswered (status_of ending) → run.last ≡ closing_line ending
 
--- a sink has taken a front of these bytes
-pub record TookFront (bytes : List ℕ) (before after : Option (List ℕ)) : Type 0 where
+-- a sink has taken a front of these bytes, not all
+pub record TookCut (bytes : List ℕ) (before after : Option (List ℕ)) : Type 0 where
   pub part : List ℕ
   pub taken : Took before after part
-  pub front : IsFront part bytes
+  pub is_cut : IsCut part bytes
 
--- the closing line was written, whole unless the sink's count of faults rose
-pub record Closes (line : List ℕ) (rose : Type 0) (before after : Option (List ℕ)) : Type 0 where
+-- the closing line was written, or cut short by a fault of the sink
+pub record WroteLast (line : List ℕ) (before after : Option (List ℕ)) (faults_before faults : ℕ) : Type 0 where
   pub part : List ℕ
   pub taken : Took before after part
-  pub front : IsFront part line
-  pub whole : (part ≡ line) ⊎ rose
+  pub closed : Closes line part faults_before faults
 
 -- a line was taken from the unread bytes, and these are left
 abbrev pub TakesLine : List ℕ → List ℕ → Option (List ℕ) → Type 0
 TakesLine line bytes left = IsSomeAnd left (λ rest. lines bytes ≡ line ∷ lines rest)
+
+-- Where the run goes on, a reader and a source that told their unread bytes still do.
+abbrev pub StaysTold : Option Ending → Option (List ℕ) → Option (List ℕ) → Type 0
+StaysTold None before now = IfSome before (λ bytes. IsSomeAnd now (λ rest. Unit {0}))
+StaysTold (Some ending) before now = Unit {0}
 
 -- why no line was taken
 abbrev pub TakesNone : Ending → ℕ → List ℕ → Option (List ℕ) → Type 0
@@ -65,33 +65,33 @@ TakesNone NoMemory number bytes left = Unit {0}
 TakesNone Usage number bytes left = ⊥
 TakesNone WriteFault number bytes left = ⊥
 
+-- the sink has taken the output of this turn
+abbrev pub HasReplied : Answer → Option World → (before after : Option (List ℕ)) → List Taking → Type 0
+HasReplied (TakesTurn turn) new before after made = (new ≡ Some turn.world) × Appends before after turn.output × (made ≡ turn.takings) × (turn.lines ≡ 1)
+HasReplied (EndsRun number at w takings) new before after made = ⊥
+
+-- of this turn's output the sink has taken a part
+abbrev pub HasCut : Answer → (before after : Option (List ℕ)) → List Taking → Type 0
+HasCut (TakesTurn turn) before after made = TookCut turn.output before after × (made ≡ turn.takings)
+HasCut (EndsRun number at w takings) before after made = ⊥
+
 -- The bytes of line n spelled this outcome, and it was carried out and its reply taken by the sink; or the run ends there.
-abbrev pub Replied : Option Ending → ℕ → Failing → Result Line ℕ → (old new : Option World) (before after : Option (List ℕ)) → Type 0
-Replied None n fails (Ok line) old new before after =
-    IfSome old (λ w. (new ≡ Some (answer_of n fails w line).world) × Appends before after (answer_of n fails w line).output)
-Replied None n fails (Err at) old new before after = ⊥
-Replied (Some WriteFault) n fails (Ok line) old new before after = IfSome old (λ w. TookFront (answer_of n fails w line).output before after)
-Replied (Some (BadLine number at)) n fails outcome old new before after = (number ≡ n) × (outcome ≡ Err at) × (after ≡ before) × (new ≡ old)
-Replied (Some NoMemory) n fails outcome old new before after = after ≡ before
-Replied (Some ending) n fails outcome old new before after = ⊥
+abbrev pub Replied : Option Ending → ℕ → Result Line ℕ → List FoundEntry → World → Option World → (before after : Option (List ℕ)) → List Taking → Type 0
+Replied None n outcome entries w new before after made = (later : List (List ℕ)) → HasReplied (answer_if n entries w outcome later) new before after made
+Replied (Some WriteFault) n outcome entries w new before after made = (later : List (List ℕ)) → HasCut (answer_if n entries w outcome later) before after made
+Replied (Some (BadLine number at)) n outcome entries w new before after made = (number ≡ n) × (outcome ≡ Err at) × (after ≡ before) × (made ≡ [])
+Replied (Some NoMemory) n outcome entries w new before after made =
+    (after ≡ before) × ((later : List (List ℕ)) → IsFront made (answer_takings (answer_if n entries w outcome later)))
+Replied (Some ending) n outcome entries w new before after made = ⊥
 
--- the entropy of a world, where it is told
-abbrev pub entropy_of : Option World → Option (List ℕ)
-entropy_of world = option_map (λ w. w.entropy) world
+-- Line n was answered and the run goes on, or it ends there; so of each run whose list agrees with what was taken.
+abbrev pub LineRan : Option Ending → ℕ → List ℕ → Option (List ℕ) → (found : List FoundEntry) (w : World) → Option World → (before after : Option (List ℕ)) → List Taking → Type 0
+LineRan None n bytes left found w new before after made =
+    IsSomeAnd left (λ rest. IsSomeAnd new (λ v. Goes (run_from n (lines bytes) found w) (run_from (n + 1) (lines rest) found v) made before after))
+LineRan (Some ending) n bytes left found w new before after made = Ends ending (run_from n (lines bytes) found w) made before after
 
--- a list says the same of line n as what that line has listed
-abbrev pub AgreesAt : ℕ → (listed found : List FoundEntry) → Type 0
-AgreesAt n listed found = failing n found ≡ failing n listed
-
--- a list says nothing of the lines from number n on
-abbrev pub IsSilentFrom : ℕ → List FoundEntry → Type 0
-IsSilentFrom n found = (m : ℕ) → n ≤ m → failing m found ≡ failing m []
-
--- Line n, which has listed these takings, was answered and the run goes on, or it ends there; so of each run whose list agrees.
-abbrev pub LineRan : Option Ending → ℕ → List ℕ → Option (List ℕ) → (old new : Option World) (listed after_line : List FoundEntry) (before after : Option (List ℕ)) → Type 0
-LineRan None n bytes left old new listed after_line before after =
-    IsSomeAnd left (λ rest. IfSome old (λ w. (found : List FoundEntry) → AgreesAt n listed found →
-    IsSomeAnd new (λ v. Goes (run_from n (lines bytes) found w) (run_from (n + 1) (lines rest) found v) before after)))
-LineRan (Some ending) n bytes left old new listed after_line before after =
-    IfSome old (λ w. (found : List FoundEntry) → AgreesAt n listed found → IsSilentFrom (n + 1) found →
-    Ends ending (run_from n (lines bytes) found w) before after (entropy_of new) after_line)
+-- A run from some line on has made takings, of lines that are here; so of each list that agrees with these.
+pub record RunsFrom (here : ℕ → Type 0) (old new : Outer) (Said : List FoundEntry → List Taking → Type 0) : Type 0 where
+  pub made : List Taking
+  pub takes : Takes here made old new
+  pub said : (found : List FoundEntry) → Agrees found made → Said found made

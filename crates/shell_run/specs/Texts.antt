@@ -15,7 +15,7 @@ use Rattle.dataset_tree.specs.declared.kinds.Kind.TheVariants.{Plain as PlainKin
 use Rattle.dataset_tree.specs.declared.tree.Row.{Row}
 use Rattle.encryption_roots.specs.declared.props.Prop.TheVariants.{Encryption}
 use Rattle.key_machine.specs.Plain.{Plain, is_root, has_key}
-use Rattle.key_machine.specs.Properties.{property_text, status_text}
+use Rattle.key_machine.specs.Get.{property_text, status_text}
 use Rattle.dataset_tree.specs.Refusal.{number_of, name_of}
 use Rattle.dataset_tree.specs.Tree.{row_of}
 

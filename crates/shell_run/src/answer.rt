@@ -1,115 +1,114 @@
 // What a line of a script does, and what it prints.
-ghost use Rattle.std.specs.Prelude.{◌≡◌, ◌≤◌, IfSome, OnOk, length, false};
+ghost use Rattle.std.specs.Prelude.{◌≡◌, ◌≤◌, ◌++◌, OnOk, length, false, None};
+ghost use Rattle.std.specs.List.{flat_map};
 ghost use Rattle.dataset_tree.specs.Refusal.{Gives};
 ghost use Rattle.dataset_tree.specs.SetName.{named};
 ghost use Rattle.encryption_roots.specs.declared.command.KeyCmd.TheVariants as commands;
 ghost use Rattle.shell_lines.specs.Grammar.{line_of};
 ghost use Rattle.shell_lines.specs.Sized.{HasRecordSize};
-ghost use Rattle.shell_run.specs.Answers.{AnswersTo, CarriesOut, Commands, Shows, listed_after, listed_for};
-ghost use Rattle.shell_run.specs.Failing.{failing_since};
-ghost use Rattle.shell_run.specs.Takings.{Lists, IsSized};
-ghost use Rattle.shell_run.specs.Transcript.{told_world, answer_of, command_named};
+ghost use Rattle.shell_run.specs.Answers.{Acts, AnswersTo, CarriesOut, Commands, IsSized, Shows, WhereTold};
+ghost use Rattle.shell_run.specs.Texts.{ok_line, set_line};
+ghost use Rattle.shell_run.specs.Transcript.{told_world, command_named};
 
 use crate::command::{Shown, execute};
-use crate::found::Found;
+use crate::outside::Outside;
 use crate::reply::{push_error, push_ok, push_sets, push_text};
 use dataset_tree::{NoMemory, SetName, Stop};
-use edge_io::{Entropy, KeyFiles};
 use encryption_roots::{KeyCmd, Options, Prop};
 use key_store::KeyState;
 use shell_lines::{Line, LineStop, Word, parse_line};
 use std::alloc::{AllocError, Global};
 
 /// Carries out the line of this number, and adds what it prints. An `Err` says at which place the bytes spell no line.
-pub(crate) fn answer<F: KeyFiles, E: Entropy>(
+pub(crate) fn answer<W: Outside>(
     alloc: Global,
     keys: &mut KeyState,
-    files: &mut F,
-    entropy: &mut E,
-    found: &mut Found,
+    outside: &mut W,
     number: u32,
     bytes: &[u8],
     output: &mut Vec<u8>,
 ) -> Result<(), LineStop>
     requires { length bytes.now ≤ 65536 }
-    ensures told { AnswersTo number (failing_since number found.old found.new) (line_of bytes.now 0) (told_world keys.old (F.files files.old) (E.left entropy.old) found.old)
-        (told_world keys.new (F.files files.new) (E.left entropy.new) found.new) output.old.items output.new.items result }
-    ensures failed { IfSome (told_world keys.old (F.files files.old) (E.left entropy.old) found.old) (λ w.
-        found.new ≡ listed_after number (failing_since number found.old found.new) w (line_of bytes.now 0)) }
-    ensures takings { Lists (λ line. line ≡ number) found.old found.new (F.faults files.old) (F.faults files.new) (E.faults entropy.old) (E.faults entropy.new) }
+    ensures told { Acts number (W.told outside.old) (W.told outside.new) (λ made.
+        WhereTold (told_world keys.old (W.told outside.old)) made (λ entries w.
+        AnswersTo result number (line_of bytes.now 0) entries w (told_world keys.new (W.told outside.new)) output.old.items output.new.items made)) }
+    ensures holds { W.holds outside.new ≡ W.holds outside.old }
 {
-    let line = parse_line(alloc, bytes, 0)?;
-    carry_out(alloc, keys, files, entropy, found, number, &line, output)?;
-    Ok(())
+    let line = match parse_line(alloc, bytes, 0) {
+        Ok(line) => line,
+        Err(stop) => return Err(stop),
+    };
+    match carry_out(alloc, keys, outside, number, &line, output) {
+        Ok(()) => Ok(()),
+        Err(_) => Err(LineStop::NoMemory),
+    }
 }
 
-fn carry_out<F: KeyFiles, E: Entropy>(
+fn carry_out<W: Outside>(
     alloc: Global,
     keys: &mut KeyState,
-    files: &mut F,
-    entropy: &mut E,
-    found: &mut Found,
+    outside: &mut W,
     number: u32,
     line: &Line,
     output: &mut Vec<u8>,
 ) -> Result<(), NoMemory>
     requires { HasRecordSize line.now }
-    ensures told { OnOk result (CarriesOut number (failing_since number found.old found.new) line.now (told_world keys.old (F.files files.old) (E.left entropy.old) found.old)
-        (told_world keys.new (F.files files.new) (E.left entropy.new) found.new) output.old.items output.new.items) }
-    ensures failed { IfSome (told_world keys.old (F.files files.old) (E.left entropy.old) found.old) (λ w.
-        found.new ≡ (answer_of number (failing_since number found.old found.new) w line.now).world.failed) }
-    ensures takings { Lists (λ line. line ≡ number) found.old found.new (F.faults files.old) (F.faults files.new) (E.faults entropy.old) (E.faults entropy.new) }
+    ensures told { Acts number (W.told outside.old) (W.told outside.new) (λ made.
+        WhereTold (told_world keys.old (W.told outside.old)) made (λ entries w.
+        CarriesOut result number line.now entries w (told_world keys.new (W.told outside.new)) output.old.items output.new.items made)) }
+    ensures holds { W.holds outside.new ≡ W.holds outside.old }
 {
     match line {
         Line::Silent => Ok(()),
-        Line::List => {
-            push_sets(output, number, keys)?;
-            push_ok(output, number)
-        }
+        Line::List => push_list(output, number, keys),
         Line::Create { name, opts } => {
             let command = create_command(alloc, name, opts);
-            run_command(alloc, keys, files, entropy, found, number, command, output)
+            run_command(alloc, keys, outside, number, command, output)
         }
         Line::LoadKey { name } => {
             let command = load_command(alloc, name);
-            run_command(alloc, keys, files, entropy, found, number, command, output)
+            run_command(alloc, keys, outside, number, command, output)
         }
         Line::UnloadKey { name } => {
             let command = unload_command(alloc, name);
-            run_command(alloc, keys, files, entropy, found, number, command, output)
+            run_command(alloc, keys, outside, number, command, output)
         }
         Line::Get { prop, name } => {
             let command = get_command(alloc, *prop, name);
-            run_command(alloc, keys, files, entropy, found, number, command, output)
+            run_command(alloc, keys, outside, number, command, output)
         }
     }
 }
 
+/// Adds the rows of all datasets, and that the line was carried out.
+fn push_list(output: &mut Vec<u8>, number: u32, keys: &KeyState) -> Result<(), NoMemory>
+    ensures { OnOk result (output.new.items ≡ output.old.items ++ (flat_map (set_line number keys.now) keys.now.tree.rows ++ ok_line number)) }
+{
+    push_sets(output, number, keys)?;
+    push_ok(output, number)
+}
+
 /// Carries out a command, or answers why there is none.
-fn run_command<F: KeyFiles, E: Entropy>(
+fn run_command<W: Outside>(
     alloc: Global,
     keys: &mut KeyState,
-    files: &mut F,
-    entropy: &mut E,
-    found: &mut Found,
+    outside: &mut W,
     number: u32,
     command: Result<KeyCmd, Stop>,
     output: &mut Vec<u8>,
 ) -> Result<(), NoMemory>
     requires { IsSized command }
-    ensures told { OnOk result (Commands number (failing_since number found.old found.new) command (told_world keys.old (F.files files.old) (E.left entropy.old) found.old)
-        (told_world keys.new (F.files files.new) (E.left entropy.new) found.new) output.old.items output.new.items) }
-    ensures failed { IfSome (told_world keys.old (F.files files.old) (E.left entropy.old) found.old) (λ w.
-        found.new ≡ listed_for number (failing_since number found.old found.new) w command) }
-    ensures takings { Lists (λ line. line ≡ number) found.old found.new (F.faults files.old) (F.faults files.new) (E.faults entropy.old) (E.faults entropy.new) }
+    ensures told { Acts number (W.told outside.old) (W.told outside.new) (λ made.
+        WhereTold (told_world keys.old (W.told outside.old)) made (λ entries w.
+        Commands result number command entries w (told_world keys.new (W.told outside.new)) output.old.items output.new.items made)) }
+    ensures holds { W.holds outside.new ≡ W.holds outside.old }
 {
     match command {
         Ok(command) => {
-            let shown = execute(alloc, keys, files, entropy, found, number, &command);
+            let shown = execute(alloc, keys, outside, number, &command);
             push_shown(output, number, keys, &shown)
         }
-        Err(Stop::Refused(why)) => push_error(output, number, keys.tree(), &why),
-        Err(Stop::NoMemory) => Err(AllocError),
+        Err(stop) => push_shown(output, number, keys, &Err(stop)),
     }
 }
 

@@ -1,5 +1,6 @@
 // The failed takings of a run.
-ghost use Rattle.std.specs.Prelude.{◌≡◌, ◌∷◌, [], ◌++◌, IfOk, OnOk, OnErr};
+ghost use Rattle.std.specs.Prelude.{◌≡◌, ◌∷◌, [], ◌++◌, List, IfOk, OnOk, OnErr, if◌then◌else◌};
+ghost use Rattle.shell_run.specs.declared.found.FoundEntry.{FoundEntry};
 
 use dataset_tree::NoMemory;
 use std::alloc::Global;
@@ -54,17 +55,23 @@ impl Found {
         Ok(Found { entries })
     }
 
-    /// Adds a failed taking of a line.
-    pub(crate) fn push(&mut self, line: u32, what: FoundKind) -> Result<(), NoMemory>
-        ensures ok { OnOk result (self.new ≡ self.old ++ record { line = line; part = 0; what = what } ∷ []) }
+    /// Adds a taking that is about to be made, so that none can fail and find no memory to be listed.
+    pub(crate) fn push(&mut self, entry: FoundEntry) -> Result<(), NoMemory>
+        ensures ok { OnOk result (self.new ≡ self.old ++ entry ∷ []) }
         ensures err { OnErr result (self.new ≡ self.old) }
     {
-        self.entries.push(FoundEntry {
-            line,
-            part: 0,
-            what,
-        })?;
+        self.entries.push(entry)?;
         Ok(())
+    }
+
+    /// Keeps the last entry where its taking failed, and takes it off where it didn't.
+    pub(crate) fn settle(&mut self, has_failed: bool)
+        ensures { (before : List FoundEntry) (last : FoundEntry) → self.old ≡ before ++ last ∷ [] →
+            self.new ≡ before ++ (if has_failed then last ∷ [] else []) }
+    {
+        if !has_failed {
+            self.entries.pop();
+        }
     }
 
     /// What was found.

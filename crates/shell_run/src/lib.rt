@@ -5,10 +5,13 @@ mod answer;
 mod command;
 mod ending;
 mod found;
+mod laws;
+mod outside;
 mod reply;
 mod run;
 
 pub use found::{Found, FoundEntry, FoundKind};
+pub use laws::{failures_tell_what_failed, parts_stand_in_order};
 pub use run::run_alone;
 
 #[cfg(test)]

@@ -2,7 +2,7 @@
 ghost use Rattle.std.specs.Prelude.{◌≡◌, ◌++◌, ◌∷◌, [], OnOk, decimal};
 ghost use Rattle.std.specs.List.{flat_map};
 ghost use Rattle.hex.specs.Hex.{encode_lower};
-ghost use Rattle.key_machine.specs.Properties.{status_text};
+ghost use Rattle.key_machine.specs.Get.{status_text};
 ghost use Rattle.shell_run.specs.Texts.{ok_line, text_line, error_line, heir_text, kind_text, set_line, bad_line, dataset_text, material_text, fields_of, spaced};
 
 use dataset_tree::{Kind, MaterialFault, NoMemory, Refusal, Row, Tree};

@@ -1,24 +1,25 @@
 // A run: the lines of a script, one after another.
-ghost use Rattle.std.specs.Prelude.{◌≡◌, ◌≢◌, ◌≤◌, ◌+◌, ◌++◌, ◌⊎◌, [], ℕ, List, IfOk, IfErr, IfSome, OnOk, Some, None, length};
+ghost use Rattle.std.specs.Prelude.{◌≡◌, ◌≢◌, ◌≤◌, ◌⊎◌, [], ℕ, List, IfOk, IfErr, IfSome, OnOk, OnErr, Option, Some, length};
 ghost use Rattle.std.specs.Io.KnownBytes.{Appends};
 ghost use Rattle.std.specs.Result.{result_err};
-ghost use Rattle.key_machine.specs.Plain.{no_keys};
 ghost use Rattle.edge_io.specs.Faults.{HasCause, Rose};
 ghost use Rattle.edge_io.specs.Lines.{lines};
 ghost use Rattle.edge_io.specs.Told.{unread};
+ghost use Rattle.key_machine.specs.Plain.{no_keys};
 ghost use Rattle.shell_lines.specs.Grammar.{line_of};
-ghost use Rattle.shell_run.specs.Endings.{EndsAs, closing_line, SourceFaults, SinkFaults, ClosesAs};
-ghost use Rattle.shell_run.specs.Progress.{Ends, Closes, LineRan, TakesLine, TakesNone, TookFront, Replied};
-ghost use Rattle.shell_run.specs.Transcript.{World, told_transcript, told_world, run_from, transcript, output_of};
-ghost use Rattle.shell_run.specs.Answers.{listed_after};
 ghost use Rattle.shell_run.specs.declared.found.FoundEntry.{FoundEntry};
-ghost use Rattle.shell_run.specs.Failing.{failing_since, since};
-ghost use Rattle.shell_run.specs.Takings.{Lists};
-ghost use Rattle.shell_run.specs.Written.{IsAnswered, Wrote};
+ghost use Rattle.shell_run.specs.Answers.{Acts, WhereTold};
+ghost use Rattle.shell_run.specs.Endings.{EndsInLine, closing_line, SourceFaults, SinkFaults, ClosesAs};
+ghost use Rattle.shell_run.specs.Outer.{Outer, calls_of};
+ghost use Rattle.shell_run.specs.Progress.{Ends, LineRan, Replied, RunsFrom, StaysTold, TakesLine, TakesNone, TookCut, WroteLast};
+ghost use Rattle.shell_run.specs.Ran.{IsAnswered, Printed, Ran};
+ghost use Rattle.shell_run.specs.Texts.{usage_line};
+ghost use Rattle.shell_run.specs.Transcript.{World, told_transcript, told_world, run_from, transcript};
 
 use crate::answer::answer;
 use crate::ending::Ending;
 use crate::found::Found;
+use crate::outside::{Lent, Outside};
 use crate::reply::push_bad;
 use dataset_tree::NoMemory;
 use edge_io::{Entropy, Failed, KeyFiles, LineError, LineReader, MAX_LINE, Sink, Source};
@@ -62,92 +63,104 @@ pub fn run_alone<S: Source, O: Sink, F: KeyFiles, E: Entropy>(
 ) -> u8
     requires { found.old ≡ [] }
 
-    // Where script, output, key files and entropy are told, what was written is the transcript where the listed takings fail.
-    ensures transcript { IfSome (told_transcript words.now (S.left script.old) (F.files files.old) (E.left entropy.old) found.new) (λ run.
-        IfSome (O.taken out.old) (λ before. IfSome (O.taken out.new) (λ after. Wrote run result (Rose (O.faults out.old) (O.faults out.new)) before after))) }
-    ensures answered { IfSome (told_transcript words.now (S.left script.old) (F.files files.old) (E.left entropy.old) found.new) (λ run. IsAnswered result → run.status ≡ result) }
-    ensures exact { IfSome (told_transcript words.now (S.left script.old) (F.files files.old) (E.left entropy.old) found.new) (λ run.
-        IfSome (O.taken out.old) (λ before. IfSome (O.taken out.new) (λ after.
-        IsAnswered result → ¬ Rose (O.faults out.old) (O.faults out.new) → after ≡ before ++ output_of run))) }
-    ensures left { IfSome (told_transcript words.now (S.left script.old) (F.files files.old) (E.left entropy.old) found.new) (λ run. IsAnswered result → E.left entropy.new ≡ Some run.entropy) }
-    ensures failed { IfSome (told_transcript words.now (S.left script.old) (F.files files.old) (E.left entropy.old) found.new) (λ run. run.failed ≡ found.new) }
+    // What is told of the outside before and after, and how far the run came of the transcript in which the listed takings fail.
+    ensures ran {
+        let before : Outer = record {
+            files = F.files files.old;
+            fetches = calls_of (F.calls files.old) (F.failing files.old) (F.faults files.old);
+            entropy = E.left entropy.old;
+            fills = calls_of (E.calls entropy.old) (E.failing entropy.old) (E.faults entropy.old);
+            found = found.old;
+        } in
+        let after : Outer = record {
+            files = F.files files.new;
+            fetches = calls_of (F.calls files.new) (F.failing files.new) (F.faults files.new);
+            entropy = E.left entropy.new;
+            fills = calls_of (E.calls entropy.new) (E.failing entropy.new) (E.faults entropy.new);
+            found = found.new;
+        } in
+        let run = told_transcript words.now (S.left script.old) before found.new in
+        let unprinted : Printed = record { taken = O.taken out.old; faults = O.faults out.old } in
+        let printed : Printed = record { taken = O.taken out.new; faults = O.faults out.new } in
+        Ran run result unprinted printed before after
+    }
     ensures read_to_its_end { result ≡ 0 → IfSome (S.left script.old) (λ bytes. S.left script.new ≡ Some []) }
 
-    // A script without a bad line is answered where neither it nor the output counts a fault and memory is found.
-    ensures complete { IfSome (told_transcript words.now (S.left script.old) (F.files files.old) (E.left entropy.old) found.new) (λ run.
-        run.status ≡ 0 → ¬ Rose (S.faults script.old) (S.faults script.new) → ¬ Rose (O.faults out.old) (O.faults out.new) → (result ≡ 0) ⊎ (result ≡ 12)) }
-
-    // Every other status has its cause, as has a failed taking.
+    // Told or not, each status has its cause.
     ensures statuses { IsAnswered result ⊎ (result ≡ 4) ⊎ (result ≡ 5) ⊎ (result ≡ 12) }
-    ensures usage { words.now ≢ [] → result ≡ 2 }
-    ensures usage_only { result ≡ 2 → words.now ≢ [] }
     ensures read_fault { result ≡ 4 → Rose (S.faults script.old) (S.faults script.new) }
     ensures write_fault { result ≡ 5 → Rose (O.faults out.old) (O.faults out.new) }
     ensures no_read_fault { result ≢ 4 → S.faults script.new ≡ S.faults script.old }
     ensures no_write_fault { result ≡ 0 → O.faults out.new ≡ O.faults out.old }
     ensures read_faults { S.faults script.old ≤ S.faults script.new }
     ensures write_faults { O.faults out.old ≤ O.faults out.new }
-    ensures takings { Lists (λ line. line ≤ MAX_LINES) found.old found.new (F.faults files.old) (F.faults files.new) (E.faults entropy.old) (E.faults entropy.new) }
-    ensures none_failed { ¬ Rose (F.faults files.old) (F.faults files.new) → ¬ Rose (E.faults entropy.old) (E.faults entropy.new) → found.new ≡ [] }
+
+    // A faulty command line gives the usage, and neither reads nor takes anything.
+    ensures usage { words.now ≢ [] → result ≡ 2 }
+    ensures usage_only { result ≡ 2 → words.now ≢ [] }
+    ensures usage_line { words.now ≢ [] →
+        WroteLast usage_line (O.taken out.old) (O.taken out.new) (O.faults out.old) (O.faults out.new) }
+    ensures usage_takes_nothing { words.now ≢ [] →
+        (script.new ≡ script.old) × (files.new ≡ files.old) × (entropy.new ≡ entropy.old) × (found.new ≡ []) }
+
+    // Where no count rose, nothing is listed.
+    ensures none_failed { ¬ Rose (F.faults files.old) (F.faults files.new) →
+        ¬ Rose (E.faults entropy.old) (E.faults entropy.new) → found.new ≡ [] }
 {
-    let ending = run_words(alloc, words, script, out, files, entropy, found);
+    let mut outside = Lent {
+        files,
+        entropy,
+        found,
+    };
+    let ending = run_words(alloc, words, script, out, &mut outside);
     close(alloc, ending, out).status()
 }
 
 /// Does what the words ask, and says how the run ends.
-fn run_words<S: Source, O: Sink, F: KeyFiles, E: Entropy>(
+fn run_words<S: Source, O: Sink, W: Outside>(
     alloc: Global,
     words: &[String],
     script: &mut S,
     out: &mut O,
-    files: &mut F,
-    entropy: &mut E,
-    found: &mut Found,
+    outside: &mut W,
 ) -> Ending
-    ensures told { IfSome (S.left script.old) (λ bytes. IfSome (told_world no_keys (F.files files.old) (E.left entropy.old) found.old) (λ w.
-        Ends result (transcript words.now bytes (since found.old found.new) w) (O.taken out.old) (O.taken out.new) (E.left entropy.new) found.new)) }
+    ensures told { RunsFrom (λ line. line ≤ MAX_LINES) (W.told outside.old) (W.told outside.new) (λ found made.
+        IfSome (S.left script.old) (λ bytes. IfSome (told_world no_keys (W.told outside.old)) (λ w.
+        Ends result (transcript words.now bytes found w) made (O.taken out.old) (O.taken out.new)))) }
     ensures end { result ≡ Ending.Done → IfSome (S.left script.old) (λ bytes. S.left script.new ≡ Some []) }
     ensures usage { words.now ≢ [] → result ≡ Ending.Usage }
     ensures usage_only { result ≡ Ending.Usage → words.now ≢ [] }
+    ensures nothing { words.now ≢ [] → (script.new ≡ script.old) × (outside.new ≡ outside.old) × (out.new ≡ out.old) }
     ensures source { SourceFaults (Some result) (S.faults script.old) (S.faults script.new) }
     ensures sink { SinkFaults (Some result) (O.faults out.old) (O.faults out.new) }
-    ensures takings { Lists (λ line. line ≤ MAX_LINES) found.old found.new (F.faults files.old) (F.faults files.new) (E.faults entropy.old) (E.faults entropy.new) }
+    ensures holds { W.holds outside.new ≡ W.holds outside.old }
 {
     match words {
-        [] => run_script(alloc, script, out, files, entropy, found),
+        [] => run_script(alloc, script, out, outside),
         [_, ..] => Ending::Usage,
     }
 }
 
 /// Runs a script, and says how it ended.
-fn run_script<S: Source, O: Sink, F: KeyFiles, E: Entropy>(
+fn run_script<S: Source, O: Sink, W: Outside>(
     alloc: Global,
     script: &mut S,
     out: &mut O,
-    files: &mut F,
-    entropy: &mut E,
-    found: &mut Found,
+    outside: &mut W,
 ) -> Ending
-    ensures told { IfSome (S.left script.old) (λ bytes. IfSome (told_world no_keys (F.files files.old) (E.left entropy.old) found.old) (λ w.
-        Ends result (run_from 1 (lines bytes) (since found.old found.new) w) (O.taken out.old) (O.taken out.new) (E.left entropy.new) found.new)) }
+    ensures told { RunsFrom (λ line. line ≤ MAX_LINES) (W.told outside.old) (W.told outside.new) (λ found made.
+        IfSome (S.left script.old) (λ bytes. IfSome (told_world no_keys (W.told outside.old)) (λ w.
+        Ends result (run_from 1 (lines bytes) found w) made (O.taken out.old) (O.taken out.new)))) }
     ensures end { result ≡ Ending.Done → IfSome (S.left script.old) (λ bytes. S.left script.new ≡ Some []) }
     ensures not_usage { result ≢ Ending.Usage }
     ensures source { SourceFaults (Some result) (S.faults script.old) (S.faults script.new) }
     ensures sink { SinkFaults (Some result) (O.faults out.old) (O.faults out.new) }
-    ensures takings { Lists (λ line. line ≤ MAX_LINES) found.old found.new (F.faults files.old) (F.faults files.new) (E.faults entropy.old) (E.faults entropy.new) }
+    ensures holds { W.holds outside.new ≡ W.holds outside.old }
 {
     match start(alloc) {
-        Ok((mut reader, mut keys)) => run_lines(
-            alloc,
-            1,
-            &mut keys,
-            &mut reader,
-            script,
-            out,
-            files,
-            entropy,
-            found,
-        ),
+        Ok((mut reader, mut keys)) => {
+            run_lines(alloc, 1, &mut keys, &mut reader, script, out, outside)
+        }
         Err(_) => Ending::NoMemory,
     }
 }
@@ -164,30 +177,29 @@ fn start(alloc: Global) -> Result<(LineReader, KeyState), NoMemory>
 }
 
 /// Runs the lines from this number on.
-pub(crate) fn run_lines<S: Source, O: Sink, F: KeyFiles, E: Entropy>(
+pub(crate) fn run_lines<S: Source, O: Sink, W: Outside>(
     alloc: Global,
     first: u32,
     keys: &mut KeyState,
     reader: &mut LineReader,
     script: &mut S,
     out: &mut O,
-    files: &mut F,
-    entropy: &mut E,
-    found: &mut Found,
+    outside: &mut W,
 ) -> Ending
     requires { first ≤ MAX_LINES }
-    ensures told { IfSome (unread reader.old (S.left script.old)) (λ bytes. IfSome (told_world keys.old (F.files files.old) (E.left entropy.old) found.old) (λ w.
-        Ends result (run_from first (lines bytes) (since found.old found.new) w) (O.taken out.old) (O.taken out.new) (E.left entropy.new) found.new)) }
+    ensures told { RunsFrom (λ line. line ≤ MAX_LINES) (W.told outside.old) (W.told outside.new) (λ found made.
+        IfSome (unread reader.old (S.left script.old)) (λ bytes. IfSome (told_world keys.old (W.told outside.old)) (λ w.
+        Ends result (run_from first (lines bytes) found w) made (O.taken out.old) (O.taken out.new)))) }
     ensures end { result ≡ Ending.Done → IfSome (unread reader.old (S.left script.old)) (λ bytes. unread reader.new (S.left script.new) ≡ Some []) }
     ensures not_usage { result ≢ Ending.Usage }
     ensures source { SourceFaults (Some result) (S.faults script.old) (S.faults script.new) }
     ensures sink { SinkFaults (Some result) (O.faults out.old) (O.faults out.new) }
-    ensures takings { Lists (λ line. line ≤ MAX_LINES) found.old found.new (F.faults files.old) (F.faults files.new) (E.faults entropy.old) (E.faults entropy.new) }
+    ensures holds { W.holds outside.new ≡ W.holds outside.old }
 {
     let mut reply = Vec::new(alloc);
     for number in first..MAX_LINES + 1 {
         if let Some(ending) = run_line(
-            alloc, number, keys, reader, &mut reply, script, out, files, entropy, found,
+            alloc, number, keys, reader, &mut reply, script, out, outside,
         ) {
             return ending;
         }
@@ -197,8 +209,8 @@ pub(crate) fn run_lines<S: Source, O: Sink, F: KeyFiles, E: Entropy>(
 
 /// How a run ends that has answered as many lines as a script may have.
 fn end_at_limit<S: Source>(reader: &mut LineReader, script: &mut S) -> Ending
-    ensures told { IfSome (unread reader.old (S.left script.old)) (λ bytes. (found : List FoundEntry) → (w : World) →
-        EndsAs result (run_from 1048577 (lines bytes) found w) [] w.entropy) }
+    ensures told { IfSome (unread reader.old (S.left script.old)) (λ bytes. (found : List FoundEntry) → (w : World) → (t : Option (List ℕ)) →
+        Ends result (run_from 1048577 (lines bytes) found w) [] t t) }
     ensures end { result ≡ Ending.Done → IfSome (unread reader.old (S.left script.old)) (λ bytes. unread reader.new (S.left script.new) ≡ Some []) }
     ensures not_usage { (result ≢ Ending.Usage) × (result ≢ Ending.WriteFault) }
     ensures source { SourceFaults (Some result) (S.faults script.old) (S.faults script.new) }
@@ -213,7 +225,7 @@ fn end_at_limit<S: Source>(reader: &mut LineReader, script: &mut S) -> Ending
 }
 
 /// Takes a line, carries it out and prints its reply; else says how the run ends.
-fn run_line<S: Source, O: Sink, F: KeyFiles, E: Entropy>(
+fn run_line<S: Source, O: Sink, W: Outside>(
     alloc: Global,
     number: u32,
     keys: &mut KeyState,
@@ -221,32 +233,21 @@ fn run_line<S: Source, O: Sink, F: KeyFiles, E: Entropy>(
     reply: &mut Vec<u8>,
     script: &mut S,
     out: &mut O,
-    files: &mut F,
-    entropy: &mut E,
-    found: &mut Found,
+    outside: &mut W,
 ) -> Option<Ending>
     requires { number ≤ MAX_LINES }
-    ensures told { IfSome (unread reader.old (S.left script.old)) (λ bytes.
-        LineRan result number bytes (unread reader.new (S.left script.new)) (told_world keys.old (F.files files.old) (E.left entropy.old) found.old)
-        (told_world keys.new (F.files files.new) (E.left entropy.new) found.new) (since found.old found.new) found.new (O.taken out.old) (O.taken out.new)) }
+    ensures told { Acts number (W.told outside.old) (W.told outside.new) (λ made. IfSome (unread reader.old (S.left script.old)) (λ bytes.
+        WhereTold (told_world keys.old (W.told outside.old)) made (λ found w.
+        LineRan result number bytes (unread reader.new (S.left script.new)) found w (told_world keys.new (W.told outside.new)) (O.taken out.old) (O.taken out.new) made))) }
+    ensures unread { StaysTold result (unread reader.old (S.left script.old)) (unread reader.new (S.left script.new)) }
     ensures end { result ≡ Some Ending.Done → IfSome (unread reader.old (S.left script.old)) (λ bytes. unread reader.new (S.left script.new) ≡ Some []) }
     ensures not_usage { result ≢ Some Ending.Usage }
     ensures source { SourceFaults result (S.faults script.old) (S.faults script.new) }
     ensures sink { SinkFaults result (O.faults out.old) (O.faults out.new) }
-    ensures takings { Lists (λ line. line ≡ number) found.old found.new (F.faults files.old) (F.faults files.new) (E.faults entropy.old) (E.faults entropy.new) }
+    ensures holds { W.holds outside.new ≡ W.holds outside.old }
 {
     match take_line(number, reader, script) {
-        Ok(line) => reply_to(
-            alloc,
-            number,
-            keys,
-            line.as_slice(),
-            reply,
-            out,
-            files,
-            entropy,
-            found,
-        ),
+        Ok(line) => reply_to(alloc, number, keys, line.as_slice(), reply, out, outside),
         Err(ending) => Some(ending),
     }
 }
@@ -278,26 +279,25 @@ fn take_line<S: Source>(
 }
 
 /// Carries out a line and prints its reply; else says how the run ends.
-fn reply_to<O: Sink, F: KeyFiles, E: Entropy>(
+fn reply_to<O: Sink, W: Outside>(
     alloc: Global,
     number: u32,
     keys: &mut KeyState,
     line: &[u8],
     reply: &mut Vec<u8>,
     out: &mut O,
-    files: &mut F,
-    entropy: &mut E,
-    found: &mut Found,
+    outside: &mut W,
 ) -> Option<Ending>
     requires { length line.now ≤ 65536 }
-    ensures told { Replied result number (failing_since number found.old found.new) (line_of line.now 0) (told_world keys.old (F.files files.old) (E.left entropy.old) found.old)
-        (told_world keys.new (F.files files.new) (E.left entropy.new) found.new) (O.taken out.old) (O.taken out.new) }
-    ensures failed { IfSome (told_world keys.old (F.files files.old) (E.left entropy.old) found.old) (λ w. found.new ≡ listed_after number (failing_since number found.old found.new) w (line_of line.now 0)) }
+    ensures told { Acts number (W.told outside.old) (W.told outside.new) (λ made.
+        WhereTold (told_world keys.old (W.told outside.old)) made (λ entries w.
+        Replied result number (line_of line.now 0) entries w (told_world keys.new (W.told outside.new)) (O.taken out.old) (O.taken out.new) made)) }
+    ensures kinds { EndsInLine result }
     ensures sink { SinkFaults result (O.faults out.old) (O.faults out.new) }
-    ensures takings { Lists (λ line. line ≡ number) found.old found.new (F.faults files.old) (F.faults files.new) (E.faults entropy.old) (E.faults entropy.new) }
+    ensures holds { W.holds outside.new ≡ W.holds outside.old }
 {
     reply.clear();
-    match answer(alloc, keys, files, entropy, found, number, line, reply) {
+    match answer(alloc, keys, outside, number, line, reply) {
         Ok(()) => match write_all(out, reply.as_slice()) {
             Ok(()) => None,
             Err(_) => Some(Ending::WriteFault),
@@ -310,7 +310,7 @@ fn reply_to<O: Sink, F: KeyFiles, E: Entropy>(
 /// Prints the last line of a run that ends so. Where no memory is left for it, the run ends with that.
 fn close<O: Sink>(alloc: Global, ending: Ending, out: &mut O) -> Ending
     ensures ending { ClosesAs ending result }
-    ensures told { Closes (closing_line result) (Rose (O.faults out.old) (O.faults out.new)) (O.taken out.old) (O.taken out.new) }
+    ensures told { WroteLast (closing_line result) (O.taken out.old) (O.taken out.new) (O.faults out.old) (O.faults out.new) }
     ensures later { O.faults out.old ≤ O.faults out.new }
     ensures silent { closing_line result ≡ [] → (O.faults out.new ≡ O.faults out.old) × (O.taken out.new ≡ O.taken out.old) }
 {
@@ -333,7 +333,7 @@ fn close<O: Sink>(alloc: Global, ending: Ending, out: &mut O) -> Ending
 
 /// Writes the last line. Where that fails the status stays.
 fn write_last<O: Sink>(out: &mut O, line: &[u8])
-    ensures told { Closes line.now (Rose (O.faults out.old) (O.faults out.new)) (O.taken out.old) (O.taken out.new) }
+    ensures told { WroteLast line.now (O.taken out.old) (O.taken out.new) (O.faults out.old) (O.faults out.new) }
     ensures later { O.faults out.old ≤ O.faults out.new }
 {
     let _ = write_all(out, line);
@@ -342,7 +342,7 @@ fn write_last<O: Sink>(out: &mut O, line: &[u8])
 /// Writes all these bytes.
 fn write_all<O: Sink>(out: &mut O, bytes: &[u8]) -> Result<(), Failed>
     ensures written { OnOk result (Appends (O.taken out.old) (O.taken out.new) bytes.now) }
-    ensures part { TookFront bytes.now (O.taken out.old) (O.taken out.new) }
+    ensures part { OnErr result (TookCut bytes.now (O.taken out.old) (O.taken out.new)) }
     ensures cause { HasCause (O.faults out.old) (O.faults out.new) result }
 {
     let mut rest = bytes;

@@ -1,11 +1,8 @@
-// What a run prints, and what faults leave of it.
+// What faults leave of a run.
 ghost use Rattle.std.specs.Prelude.{None, [], IfOk, ◌≡◌};
 
 use super::*;
-use crate::ending::Ending;
-use crate::run::{MAX_LINES, run_lines};
-use edge_io::{Failed, LineReader, MemEntropy, MemKeyFiles, MemSink, MemSource, Source};
-use key_store::KeyState;
+use edge_io::{Failed, MemEntropy, MemKeyFiles, MemSink, MemSource, Sink, Source};
 use std::alloc::Global;
 use std::test::Fail;
 
@@ -37,10 +34,6 @@ impl Source for Pieces<'_> {
     }
 }
 
-fn calls_that_fail(alloc: Global, fails: &[u32]) -> Result<Vec<u32>, Fail> {
-    Ok(Vec::from_slice(alloc, fails)?)
-}
-
 fn nothing_found(alloc: Global) -> Result<Found, Fail>
     ensures { IfOk result (λ found. found ≡ []) }
 {
@@ -50,37 +43,33 @@ fn nothing_found(alloc: Global) -> Result<Found, Fail>
     }
 }
 
-// The file `/k` of so many bytes `k`, whose calls with a number in a list fail.
-fn key_files(alloc: Global, len: usize, fails: &[u32]) -> Result<MemKeyFiles, Fail> {
+// The file `/k` of 32 bytes `k`, whose calls with a number in a list fail.
+fn key_files(alloc: Global, fails: &[u32]) -> Result<MemKeyFiles, Fail> {
     let mut files = Vec::new(alloc);
-    files.push((String::from_str(alloc, "/k")?, vec![in alloc; b'k'; len]?))?;
-    Ok(MemKeyFiles::new(files, calls_that_fail(alloc, fails)?))
+    files.push((String::from_str(alloc, "/k")?, vec![in alloc; b'k'; 32]?))?;
+    Ok(MemKeyFiles::new(files, Vec::from_slice(alloc, fails)?))
 }
 
-// So many bytes of entropy.
-fn entropy_of(alloc: Global, len: usize) -> Result<MemEntropy, Fail> {
-    Ok(MemEntropy::new(vec![in alloc; 7; len]?, Vec::new(alloc)))
+// So many bytes of entropy, whose calls with a number in a list fail.
+fn entropy_of(alloc: Global, len: usize, fails: &[u32]) -> Result<MemEntropy, Fail> {
+    let bytes = vec![in alloc; 7; len]?;
+    Ok(MemEntropy::new(bytes, Vec::from_slice(alloc, fails)?))
 }
 
-// Runs a script without words over these, and gives its status and how many takings failed.
-fn run_over(
-    alloc: Global,
-    script: &[u8],
-    sink: &mut MemSink,
-    files: &mut MemKeyFiles,
-    entropy: &mut MemEntropy,
-) -> Result<(u8, usize), Fail> {
-    let mut source = MemSource::new(Vec::from_slice(alloc, script)?, Vec::new(alloc));
+// Runs a script without words that takes nothing.
+fn run_plain<S: Source, O: Sink>(alloc: Global, source: &mut S, sink: &mut O) -> Result<u8, Fail> {
+    let mut files = key_files(alloc, &[])?;
+    let mut entropy = entropy_of(alloc, 0, &[])?;
     let mut found = nothing_found(alloc)?;
-    let status = run_alone(alloc, &[], &mut source, sink, files, entropy, &mut found);
-    Ok((status, found.entries().len()))
-}
-
-// Runs a script that takes nothing.
-fn run_plain(alloc: Global, script: &[u8], sink: &mut MemSink) -> Result<u8, Fail> {
-    let mut files = key_files(alloc, 0, &[])?;
-    let mut entropy = entropy_of(alloc, 0)?;
-    Ok(run_over(alloc, script, sink, &mut files, &mut entropy)?.0)
+    Ok(run_alone(
+        alloc,
+        &[],
+        source,
+        sink,
+        &mut files,
+        &mut entropy,
+        &mut found,
+    ))
 }
 
 const TREE: &[u8] =
@@ -88,207 +77,6 @@ const TREE: &[u8] =
 
 const TREE_REPLIES: &[u8] =
     b"1 ok\n2 ok\n5 error 2 Exists\n6 error 4 NoParent\n7 set tank plain\n7 set tank/home plain\n7 ok\n";
-
-#[test]
-fn scripts_have_their_transcripts(rt: HostRuntime) -> Result<(), Fail> {
-    let alloc = rt.alloc();
-    let rows: [(&[u8], &[u8], u8); 8] = [
-        (b"", b"", 0),
-        (TREE, TREE_REPLIES, 0),
-        (b"create tank\nfrob tank\nlist\n", b"1 ok\n2 bad 0\n", 3),
-        (
-            b"  list \r\n# \xff\n<secret\nlist x\n",
-            b"1 ok\n4 bad 5\n",
-            3,
-        ),
-        (b"create\n", b"1 bad 6\n", 3),
-        (b"list\tx\n", b"1 bad 4\n", 3),
-        (b"list\nlist\r", b"1 ok\n2 bad 4\n", 3),
-        (
-            b"create tank/\ncreate a//b",
-            b"1 error 3 BadName 5\n2 error 3 BadName 2\n",
-            0,
-        ),
-    ];
-    for (script, output, status) in rows {
-        let mut sink = MemSink::new(Vec::new(alloc));
-        assert_eq!(rt; run_plain(alloc, script, &mut sink)?, status);
-        assert_eq!(rt; sink.bytes(), output);
-    }
-    Ok(())
-}
-
-const KEYS: &[u8] = b"create -o keyformat=raw -o keylocation=file:///k tank
-get keystatus tank
-unload-key tank
-unload-key tank
-get keystatus tank
-load-key tank
-load-key tank
-create p
-load-key p
-create tank/a
-list
-";
-
-const KEYS_REPLIES: &[u8] = b"1 ok
-2 ok available
-3 ok
-4 error 5 KeyUnavailable
-5 ok unavailable
-6 ok
-7 error 6 KeyLoaded
-8 ok
-9 error 8 NotEncrypted
-10 error 37 BadOptions
-11 set tank aes-256-gcm root available
-11 set p plain
-11 ok
-";
-
-#[test]
-fn a_root_is_made_unloaded_and_loaded(rt: HostRuntime) -> Result<(), Fail> {
-    let alloc = rt.alloc();
-    let mut sink = MemSink::new(Vec::new(alloc));
-    let mut files = key_files(alloc, 32, &[])?;
-    let mut entropy = entropy_of(alloc, 32)?;
-    let answered = run_over(alloc, KEYS, &mut sink, &mut files, &mut entropy)?;
-    assert_eq!(rt; answered, (0, 0));
-    assert_eq!(rt; sink.bytes(), KEYS_REPLIES);
-    Ok(())
-}
-
-// Each has a key file of so many bytes, the number of the fetch that fails, and so many bytes of entropy.
-const REFUSED: [(&[u8], usize, u32, usize, &[u8], usize); 4] = [
-    (
-        b"create -o keyformat=raw -o keylocation=file:///k tank\nlist\n",
-        31,
-        99,
-        32,
-        b"1 error 10 BadMaterial short\n2 ok\n",
-        0,
-    ),
-    (
-        b"create -o keylocation=file:///k -o keyformat=raw tank\nlist\n",
-        32,
-        0,
-        32,
-        b"1 error 12 KeyFault\n2 ok\n",
-        1,
-    ),
-    (
-        b"create -o keyformat=raw -o keylocation=file:///other tank\nlist\n",
-        32,
-        99,
-        32,
-        b"1 error 11 KeyFileMissing\n2 ok\n",
-        0,
-    ),
-    (
-        b"create -o keyformat=raw -o keylocation=file:///k tank\nlist\n",
-        32,
-        99,
-        0,
-        b"1 error 13 EntropyFault\n2 ok\n",
-        1,
-    ),
-];
-
-#[test]
-fn a_taking_that_fails_leaves_no_dataset(rt: HostRuntime) -> Result<(), Fail> {
-    let alloc = rt.alloc();
-    for (script, key_len, fails_at, entropy_len, output, failed) in REFUSED {
-        let mut sink = MemSink::new(Vec::new(alloc));
-        let mut files = key_files(alloc, key_len, &[fails_at])?;
-        let mut entropy = entropy_of(alloc, entropy_len)?;
-        let answered = run_over(alloc, script, &mut sink, &mut files, &mut entropy)?;
-        assert_eq!(rt; answered, (0, failed));
-        assert_eq!(rt; sink.bytes(), output);
-    }
-    Ok(())
-}
-
-const FAULTY: &[u8] = b"create -o keyformat=raw -o keylocation=file:///k tank
-create -o keyformat=raw -o keylocation=file:///k tank
-create -o keyformat=raw -o keylocation=file:///k lake
-create -o keyformat=raw -o keylocation=file:///k lake
-list
-";
-
-const FAULTY_REPLIES: &[u8] = b"1 error 12 KeyFault
-2 ok
-3 error 13 EntropyFault
-4 error 12 KeyFault
-5 set tank aes-256-gcm root available
-5 ok
-";
-
-const FAILED: [(u32, FoundKind); 4] = [
-    (1, FoundKind::NewKey),
-    (3, FoundKind::Seed),
-    (4, FoundKind::NewKey),
-    (4, FoundKind::Seed),
-];
-
-// Line 1 takes a seed although its key fails, so two seeds are gone before line 3.
-#[test]
-fn a_run_goes_on_behind_failed_takings_and_lists_them(rt: HostRuntime) -> Result<(), Fail> {
-    let alloc = rt.alloc();
-    let mut source = MemSource::new(Vec::from_slice(alloc, FAULTY)?, Vec::new(alloc));
-    let mut sink = MemSink::new(Vec::new(alloc));
-    let mut files = key_files(alloc, 32, &[0, 3])?;
-    let mut entropy = entropy_of(alloc, 64)?;
-    let mut found = nothing_found(alloc)?;
-    let status = run_alone(
-        alloc,
-        &[],
-        &mut source,
-        &mut sink,
-        &mut files,
-        &mut entropy,
-        &mut found,
-    );
-    assert_eq!(rt; (status, sink.bytes()), (0, FAULTY_REPLIES));
-    assert_eq!(rt; found.entries().len(), FAILED.len());
-    for (entry, (line, what)) in found.entries().iter().zip(FAILED) {
-        assert_eq!(rt;
-            *entry,
-            FoundEntry {
-                line,
-                part: 0,
-                what
-            }
-        );
-    }
-    Ok(())
-}
-
-#[test]
-fn every_word_is_usage(rt: HostRuntime) -> Result<(), Fail> {
-    let alloc = rt.alloc();
-    let mut words = Vec::new(alloc);
-    words.push(String::from_str(alloc, "--frob")?)?;
-    let mut source = MemSource::new(Vec::from_slice(alloc, b"list")?, Vec::new(alloc));
-    let mut sink = MemSink::new(Vec::new(alloc));
-    let mut found = nothing_found(alloc)?;
-    let mut files = key_files(alloc, 0, &[])?;
-    let mut entropy = entropy_of(alloc, 0)?;
-    let status = run_alone(
-        alloc,
-        &words,
-        &mut source,
-        &mut sink,
-        &mut files,
-        &mut entropy,
-        &mut found,
-    );
-    assert_eq!(rt; status, 2);
-    assert_eq!(rt;
-        sink.bytes(),
-        b"usage: zfs_shell [--max-salt-uses N] [--generate N]\n".as_slice()
-    );
-    Ok(())
-}
 
 #[test]
 fn a_failing_source_leaves_a_front_and_the_last_line(rt: HostRuntime) -> Result<(), Fail> {
@@ -301,18 +89,7 @@ fn a_failing_source_leaves_a_front_and_the_last_line(rt: HostRuntime) -> Result<
             faults: 0,
         };
         let mut sink = MemSink::new(Vec::new(alloc));
-        let mut found = nothing_found(alloc)?;
-        let mut files = key_files(alloc, 0, &[])?;
-        let mut entropy = entropy_of(alloc, 0)?;
-        let status = run_alone(
-            alloc,
-            &[],
-            &mut source,
-            &mut sink,
-            &mut files,
-            &mut entropy,
-            &mut found,
-        );
+        let status = run_plain(alloc, &mut source, &mut sink)?;
         if source.faults == 0 {
             assert_eq!(rt; (status, sink.bytes()), (0, TREE_REPLIES));
         } else {
@@ -328,8 +105,9 @@ fn a_failing_source_leaves_a_front_and_the_last_line(rt: HostRuntime) -> Result<
 fn a_failing_sink_leaves_a_front(rt: HostRuntime) -> Result<(), Fail> {
     let alloc = rt.alloc();
     for call in 0..6u32 {
-        let mut sink = MemSink::new(calls_that_fail(alloc, &[call])?);
-        let status = run_plain(alloc, TREE, &mut sink)?;
+        let mut source = MemSource::new(Vec::from_slice(alloc, TREE)?, Vec::new(alloc));
+        let mut sink = MemSink::new(Vec::from_slice(alloc, &[call])?);
+        let status = run_plain(alloc, &mut source, &mut sink)?;
         let all = sink.bytes().len() == TREE_REPLIES.len();
         assert_eq!(rt; status, if all { 0 } else { 5 });
         assert!(rt; TREE_REPLIES.starts_with(sink.bytes()));
@@ -338,68 +116,103 @@ fn a_failing_sink_leaves_a_front(rt: HostRuntime) -> Result<(), Fail> {
     Ok(())
 }
 
-#[test]
-fn a_sink_that_fails_at_the_last_line_keeps_the_status(rt: HostRuntime) -> Result<(), Fail> {
-    let alloc = rt.alloc();
-    let mut sink = MemSink::new(calls_that_fail(alloc, &[1])?);
-    assert_eq!(rt; run_plain(alloc, b"list\nfrob\n", &mut sink)?, 3);
-    assert_eq!(rt; sink.bytes(), b"1 ok\n".as_slice());
-    Ok(())
-}
+const KEYS: &[u8] = b"create -o keyformat=raw -o keylocation=file:///k tank
+create -o keyformat=raw -o keylocation=file:///k lake
+unload-key lake
+load-key lake
+create -o keyformat=raw -o keylocation=file:///k tank
+get keystatus lake
+";
+
+// A run of the script: which fetches and which fills fail, how many bytes of entropy there are, and then the replies and the
+// failed takings. Line 1 takes a seed although its key fails; line 5 makes a dataset only where line 1 has made none.
+type Row = (
+    &'static [u32],
+    &'static [u32],
+    usize,
+    &'static [u8],
+    &'static [(u32, FoundKind)],
+);
+
+const ROWS: [Row; 7] = [
+    (
+        &[],
+        &[],
+        64,
+        b"1 ok\n2 ok\n3 ok\n4 ok\n5 error 2 Exists\n6 ok available\n",
+        &[],
+    ),
+    (
+        &[0],
+        &[],
+        96,
+        b"1 error 12 KeyFault\n2 ok\n3 ok\n4 ok\n5 ok\n6 ok available\n",
+        &[(1, FoundKind::NewKey)],
+    ),
+    (
+        &[1],
+        &[],
+        64,
+        b"1 ok\n2 error 12 KeyFault\n3 error 1 NoSuch\n4 error 1 NoSuch\n5 error 2 Exists\n6 error 1 NoSuch\n",
+        &[(2, FoundKind::NewKey)],
+    ),
+    (
+        &[2],
+        &[],
+        64,
+        b"1 ok\n2 ok\n3 ok\n4 error 12 KeyFault\n5 error 2 Exists\n6 ok unavailable\n",
+        &[(4, FoundKind::NewKey)],
+    ),
+    (
+        &[],
+        &[0],
+        64,
+        b"1 error 13 EntropyFault\n2 ok\n3 ok\n4 ok\n5 ok\n6 ok available\n",
+        &[(1, FoundKind::Seed)],
+    ),
+    (
+        &[],
+        &[1],
+        64,
+        b"1 ok\n2 error 13 EntropyFault\n3 error 1 NoSuch\n4 error 1 NoSuch\n5 error 2 Exists\n6 error 1 NoSuch\n",
+        &[(2, FoundKind::Seed)],
+    ),
+    (
+        &[0, 1],
+        &[0],
+        31,
+        b"1 error 12 KeyFault\n2 error 12 KeyFault\n3 error 1 NoSuch\n4 error 1 NoSuch\n5 error 13 EntropyFault\n6 error 1 NoSuch\n",
+        &[
+            (1, FoundKind::NewKey),
+            (1, FoundKind::Seed),
+            (2, FoundKind::NewKey),
+            (2, FoundKind::Seed),
+            (5, FoundKind::Seed),
+        ],
+    ),
+];
 
 #[test]
-fn a_line_has_at_most_65536_bytes(rt: HostRuntime) -> Result<(), Fail> {
+fn a_run_goes_on_behind_failed_takings_and_lists_them(rt: HostRuntime) -> Result<(), Fail> {
     let alloc = rt.alloc();
-    for (length, output, status) in [
-        (65536usize, b"2 ok\n".as_slice(), 0),
-        (65537, b"1 bad 65536\n", 3),
-    ] {
-        let mut script = vec![in alloc; b'#'; length]?;
-        script.extend_from_slice(b"\r\nlist\n")?;
+    for (fetches, fills, len, replies, failed) in ROWS {
+        let mut source = MemSource::new(Vec::from_slice(alloc, KEYS)?, Vec::new(alloc));
         let mut sink = MemSink::new(Vec::new(alloc));
-        assert_eq!(rt; run_plain(alloc, &script, &mut sink)?, status);
-        assert_eq!(rt; sink.bytes(), output);
-    }
-    Ok(())
-}
-
-// How a run ends that begins at the last line that a script may have.
-fn run_last(alloc: Global, script: &[u8], sink: &mut MemSink) -> Result<Ending, Fail> {
-    let mut source = MemSource::new(Vec::from_slice(alloc, script)?, Vec::new(alloc));
-    let mut reader = LineReader::new(alloc)?;
-    let mut keys = KeyState::new(alloc)?;
-    let mut files = key_files(alloc, 0, &[])?;
-    let mut entropy = entropy_of(alloc, 0)?;
-    let mut found = nothing_found(alloc)?;
-    Ok(run_lines(
-        alloc,
-        MAX_LINES,
-        &mut keys,
-        &mut reader,
-        &mut source,
-        sink,
-        &mut files,
-        &mut entropy,
-        &mut found,
-    ))
-}
-
-#[test]
-fn a_script_has_at_most_1048576_lines(rt: HostRuntime) -> Result<(), Fail> {
-    let alloc = rt.alloc();
-    for (script, ends_well) in [(b"list\n".as_slice(), true), (b"list\n\n", false)] {
-        let mut sink = MemSink::new(Vec::new(alloc));
-        let ending = run_last(alloc, script, &mut sink)?;
-        assert_eq!(rt; sink.bytes(), b"1048576 ok\n".as_slice());
-        assert_eq!(rt; matches!(ending, Ending::Done), ends_well);
-        let is_past = matches!(
-            ending,
-            Ending::BadLine {
-                number: 1048577,
-                at: 0
-            }
+        let mut files = key_files(alloc, fetches)?;
+        let mut entropy = entropy_of(alloc, len, fills)?;
+        let mut found = nothing_found(alloc)?;
+        let status = run_alone(
+            alloc,
+            &[],
+            &mut source,
+            &mut sink,
+            &mut files,
+            &mut entropy,
+            &mut found,
         );
-        assert_eq!(rt; is_past, !ends_well);
+        assert_eq!(rt; (status, sink.bytes()), (0, replies));
+        let listed = found.entries().iter().map(|entry| (entry.line, entry.part, entry.what));
+        assert!(rt; listed.eq(failed.iter().map(|&(line, what)| (line, 0, what))));
     }
     Ok(())
 }

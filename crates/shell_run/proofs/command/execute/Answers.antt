@@ -1,28 +1,19 @@
-use Rattle.shell_run.specs.Failing.{failing_since}
-use Rattle.shell_run.proofs.CommandLemmas.{executed, listed_taking, listed_before}
 use Rattle.dataset_tree.specs.declared.refusal.Refusal.TheVariants.{KeyFault, EntropyFault}
+use Rattle.shell_run.proofs.CommandLemmas.{executed, executed_at_once, executed_stopped}
 use Rattle.shell_run.proofs.FaultLemmas.{executed_fault, needs_apart, key_taking, entropy_taking, by_fetch, by_fill}
 use Rattle.shell_run.proofs.command.execute.Goals as goal
 
+pub returns-in-Err-clause-told : goal.returns-in-Err-clause-told
+returns-in-Err-clause-told g c = executed_at_once c.args.number c.args.keys.now c.args.command.now (g.W.Outside.told c.args.outside.now) c.in-Err.stop c.in-Err.ensures
+
+pub returns-in-Err-take_kit-clause-told : goal.returns-in-Err-take_kit-clause-told
+returns-in-Err-take_kit-clause-told g c =
+    executed_stopped c.args.number c.args.keys.now c.args.command.now c.in-Ok.needs _ (g.W.Outside.told c.args.outside.now) (g.W.Outside.told c.take_kit.new.outside) c.in-Ok.ensures c.in-Err-take_kit.ensures.takes
+
 pub returns-clause-told : goal.returns-clause-told
 returns-clause-told g c =
-    executed c.args.number (failing_since c.args.number c.args.found.now c.take_kit.new.found) c.args.keys.now c.carry.new.keys c.args.command.now c.in-Ok.needs c.in_ok-kit.kit
-    (g.F.KeyFiles.files c.args.files.now) (g.F.KeyFiles.files c.take_kit.new.files) (g.E.Entropy.left c.args.entropy.now) (g.E.Entropy.left c.take_kit.new.entropy) c.args.found.now c.take_kit.new.found c.carry.result
-    c.in-Ok.ensures c.in_ok-kit.ensures.kit c.take_kit.ensures.files c.in_ok-kit.ensures.left c.take_kit.ensures.failed c.carry.ensures.reply c.carry.ensures.state
-
-pub returns-clause-failed : goal.returns-clause-failed
-returns-clause-failed g c =
-    listed_taking c.args.number (failing_since c.args.number c.args.found.now c.take_kit.new.found) c.args.keys.now c.args.command.now c.in-Ok.needs
-    (g.F.KeyFiles.files c.args.files.now) (g.E.Entropy.left c.args.entropy.now) c.args.found.now c.take_kit.new.found c.in-Ok.ensures c.take_kit.ensures.failed
-
-pub returns-in_err-kit-clause-failed : goal.returns-in_err-kit-clause-failed
-returns-in_err-kit-clause-failed g c =
-    listed_taking c.args.number (failing_since c.args.number c.args.found.now c.take_kit.new.found) c.args.keys.now c.args.command.now c.in-Ok.needs
-    (g.F.KeyFiles.files c.args.files.now) (g.E.Entropy.left c.args.entropy.now) c.args.found.now c.take_kit.new.found c.in-Ok.ensures c.take_kit.ensures.failed
-
-pub returns-in-Err-clause-failed : goal.returns-in-Err-clause-failed
-returns-in-Err-clause-failed g c =
-    listed_before c.args.number c.args.keys.now c.args.command.now (g.F.KeyFiles.files c.args.files.now) (g.E.Entropy.left c.args.entropy.now) c.args.found.now
+    executed c.args.number c.args.keys.now c.carry.new.keys c.args.command.now c.in-Ok.needs c.in-Ok-take_kit.kit (g.W.Outside.told c.args.outside.now) (g.W.Outside.told c.take_kit.new.outside) c.carry.result
+    c.in-Ok.ensures c.in-Ok-take_kit.ensures.takes c.carry.ensures.reply c.carry.ensures.state
 
 pub returns-in-Err-clause-key_fault : goal.returns-in-Err-clause-key_fault
 returns-in-Err-clause-key_fault g c = λ same. absurd (needs_apart KeyFault key_taking c.args.keys.now c.args.command.now c.in-Err.stop c.in-Err.ensures same)
@@ -32,8 +23,8 @@ returns-in-Err-clause-entropy_fault g c = λ same. absurd (needs_apart EntropyFa
 
 pub returns-clause-key_fault : goal.returns-clause-key_fault
 returns-clause-key_fault g c = λ same.
-    c.in_ok-kit.ensures.key_fault (by_fetch c.in_ok-kit.kit (executed_fault KeyFault key_taking c.args.keys.now c.args.command.now c.in-Ok.needs c.in_ok-kit.kit c.carry.result c.in-Ok.ensures c.in_ok-kit.ensures.asked c.carry.ensures.reply same))
+    c.in-Ok-take_kit.ensures.key_fault (by_fetch c.in-Ok-take_kit.kit (executed_fault KeyFault key_taking c.args.keys.now c.args.command.now c.in-Ok.needs c.in-Ok-take_kit.kit c.carry.result c.in-Ok.ensures c.in-Ok-take_kit.ensures.asked c.carry.ensures.reply same))
 
 pub returns-clause-entropy_fault : goal.returns-clause-entropy_fault
 returns-clause-entropy_fault g c = λ same.
-    c.in_ok-kit.ensures.entropy_fault (by_fill c.in_ok-kit.kit (executed_fault EntropyFault entropy_taking c.args.keys.now c.args.command.now c.in-Ok.needs c.in_ok-kit.kit c.carry.result c.in-Ok.ensures c.in_ok-kit.ensures.asked c.carry.ensures.reply same))
+    c.in-Ok-take_kit.ensures.entropy_fault (by_fill c.in-Ok-take_kit.kit (executed_fault EntropyFault entropy_taking c.args.keys.now c.args.command.now c.in-Ok.needs c.in-Ok-take_kit.kit c.carry.result c.in-Ok.ensures c.in-Ok-take_kit.ensures.asked c.carry.ensures.reply same))
