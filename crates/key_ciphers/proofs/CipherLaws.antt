@@ -1,12 +1,11 @@
 -- The ciphers keep what the machine asks of them.
-use Rattle.std.proofs.Common.{◌≡◌, ◌≢◌, ⊎_elim, ℕ, ◌+◌, ◌*◌, ◌^◌, ◌<◌, Bool, true, false, cond, nat_lt, List, length, Option, Some, Result, Ok, Err, refl, ap, sym, ◌∙◌, arith}
+use Rattle.std.proofs.Common.{◌≡◌, ⊎_elim, ℕ, ◌^◌, ◌<◌, true, false, nat_lt, List, length, Some, Ok, Err, ap, sym, ◌∙◌, arith}
 use Rattle.std.proofs.lemmas.Bool.{cases_Bool}
 use Rattle.std.proofs.lemmas.Bool.Decides.{nat_tests}
 use Rattle.std.specs.Option.{option_map}
 use Rattle.byte_fields.specs.LittleEndian.{little_endian_value}
 use Rattle.dataset_tree.specs.declared.kinds.Format.{Format}
 use Rattle.dataset_tree.specs.declared.kinds.Format.TheVariants.{Raw, Hex, Passphrase}
-use Rattle.dataset_tree.specs.declared.refusal.Refusal.{Refusal}
 use Rattle.dataset_tree.specs.declared.refusal.Refusal.TheVariants.{BadMaterial}
 use Rattle.dataset_tree.specs.declared.refusal.MaterialFault.TheVariants.{Short, Long}
 use Rattle.salt_rotation.specs.SeedWords.{seed_bytes, bytes_of_words}

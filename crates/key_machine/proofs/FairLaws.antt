@@ -60,7 +60,7 @@ module _ (c : Ciphers) (are : AreSound c) where
         let stands : (if makes_root opts then (if makes_root opts then key else no_key) else own) ≡ key = ap (λ b. if b then (if b then key else no_key) else own) is_root ∙ stands_under root had in
         let sealed : List ℕ = seeded_record c (new_suite p name opts) seed key in
         let one : AllOpen c key ((p.tree.last + 1, sealed) ∷ []) =
-        All-cons (λ entry. is_some (c.opens entry.1 key) ≡ true) (p.tree.last + 1, sealed) [] (seeded_opens (new_suite p name opts) seed key) (All-nil _) in
+        All-cons (λ entry. is_some (c.opens entry.1 key) ≡ true) (p.tree.last + 1, sealed) [] (seeded_opens (new_suite p name opts) seed key) (All-nil (λ entry. is_some (c.opens entry.1 key) ≡ true)) in
         record {
           owned = tt;
           families = sym (ap (λ b. if b then (p.tree.last + 1) ∷ [] else []) (is_encrypted ∙ made));

@@ -12,3 +12,4 @@ pub mod UnloadLaws
 pub mod FairLaws
 pub mod HoldLaws
 pub mod RefusalLaws
+pub mod FamilyLaws

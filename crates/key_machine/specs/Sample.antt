@@ -1,9 +1,9 @@
--- A host for worked values: `tank` (1), a root, with `tank/a` (2) and `tank/b` (3), which inherit its key, and `copy` (4), a clone
--- of `tank/a`. `tank/a` is mounted on slot 0, and `copy` is mapped on slot 1, where rider 7 holds it twice; slot 2 was used before.
+-- A host for worked values: `tank` (1), a root, with `tank/a` (2) and `tank/b` (3), which inherit its key, `copy` (4), a clone of
+-- `tank/a`, and `lake` (5), which is plain. `tank/a` is mounted on slot 0, and `copy` is mapped on slot 1, where rider 7 holds it twice; slot 2 was used before.
 use Rattle.std.specs.Prelude.{ℕ, [], ◌∷◌, ◌++◌, replicate, codes}
-use Rattle.dataset_tree.specs.declared.kinds.Kind.TheVariants.{Crypt}
+use Rattle.dataset_tree.specs.declared.kinds.Kind.TheVariants.{Plain as PlainKind, Crypt}
 use Rattle.dataset_tree.specs.declared.kinds.Format.TheVariants.{Raw}
-use Rattle.encryption_roots.specs.declared.props.Location.TheVariants.{Prompt}
+use Rattle.encryption_roots.specs.declared.props.Location.TheVariants.{File}
 use Rattle.key_machine.specs.Plain.{Plain}
 
 abbrev pub sample : Plain
@@ -14,10 +14,11 @@ sample = record {
         ∷ record { id = 2; parent = 1; name = codes "tank/a"; kind = Crypt; origin = 0 }
         ∷ record { id = 3; parent = 1; name = codes "tank/b"; kind = Crypt; origin = 0 }
         ∷ record { id = 4; parent = 0; name = codes "copy"; kind = Crypt; origin = 2 }
+        ∷ record { id = 5; parent = 0; name = codes "lake"; kind = PlainKind; origin = 0 }
         ∷ [];
-    last = 4;
+    last = 5;
   };
-  roots = (1, record { format = Raw; place = Prompt; iters = 0; salt = 0 }) ∷ [];
+  roots = (1, record { format = Raw; place = File (codes "/t"); iters = 0; salt = 0 }) ∷ [];
   wrapped = (1, record { wrapped = 11 ∷ []; block = 512 }) ∷ (2, record { wrapped = 22 ∷ []; block = 512 }) ∷ (3, record { wrapped = 33 ∷ []; block = 512 }) ∷ [];
   loaded = (1, codes "the key of tank") ∷ [];
   gens = (1 ∷ 1 ∷ 5 ∷ []) ++ replicate 253 0;

@@ -1,6 +1,5 @@
 // Laws of all commands.
-ghost use Rattle.std.specs.Prelude.{◌≡◌, ◌≢◌, ◌⊎◌, ℕ, ◌≤◌, ◌==◌, List, [], Some, None, length};
-ghost use Rattle.std.specs.List.{AllPairs, count_by};
+ghost use Rattle.std.specs.Prelude.{◌≡◌, ◌⊎◌, ℕ, [], Some, None, length};
 ghost use Rattle.dataset_tree.specs.declared.refusal.Refusal.{Refusal};
 ghost use Rattle.dataset_tree.specs.declared.refusal.Refusal.TheVariants.{Busy};
 ghost use Rattle.dataset_tree.specs.Tree.{IsTree};
@@ -51,10 +50,4 @@ pub fn a_refusal_changes_nothing()
 /// Each command keeps a tree one, whatever is told: no name is given twice, and a dataset's parent is the one that its name tells.
 pub fn each_step_keeps_the_tree()
     ensures { (p : Plain) (command : KeyCmd) (told : Told) → IsTree p.tree → IsTree (key_step p command told).state.tree }
-{}
-
-/// In a sound state no dataset is mounted twice, and a rider holds at most 65535 times.
-pub fn mounts_and_holds_are_bounded()
-    ensures mounts { (c : Ciphers) (p : Plain) → Sound c p → AllPairs (λ a b. a ≢ b) p.mounted }
-    ensures holds { (c : Ciphers) (p : Plain) (rider : ℕ) → Sound c p → count_by (λ hold. hold.rider == rider) p.users ≤ 65535 }
 {}

@@ -7,6 +7,7 @@
 mod create_laws;
 mod key_laws;
 mod laws;
+mod sound_laws;
 mod values;
 
 pub use create_laws::a_new_root_has_its_key;
@@ -16,10 +17,11 @@ pub use key_laws::{
 };
 pub use laws::{
     a_fault_tells_nothing_else, a_refusal_changes_nothing, each_step_keeps_the_tree,
-    fair_steps_keep_soundness, mounts_and_holds_are_bounded, nothing_is_sound,
-    what_a_kit_tells_is_fair,
+    fair_steps_keep_soundness, nothing_is_sound, what_a_kit_tells_is_fair,
 };
+pub use sound_laws::{a_loaded_key_opens_its_families, mounts_and_holds_are_bounded};
 pub use values::{
     creates_are_refused_in_order, defaults_of_a_create, holds_of_a_rider, holds_stand_by_rider,
-    master_keys_of_families, users_of_keys, words_of_slots,
+    loads_are_refused_in_order, master_keys_of_families, places_of_takings, users_of_keys,
+    words_of_slots,
 };

@@ -1,10 +1,11 @@
 // Worked values of the definitions.
-ghost use Rattle.std.specs.Prelude.{◌≡◌, ℕ, ◌≤◌, List, [], ◌∷◌, Some, codes};
+ghost use Rattle.std.specs.Prelude.{◌≡◌, ℕ, ◌≤◌, true, false, List, [], ◌∷◌, Some, None, codes};
 ghost use Rattle.std.specs.List.{AllPairs};
 ghost use Rattle.dataset_tree.specs.declared.kinds.Format.TheVariants.{Raw, Passphrase};
-ghost use Rattle.dataset_tree.specs.declared.refusal.Refusal.TheVariants.{Exists, NoParent, BadIters, BadOptions, KeyFileMissing};
+ghost use Rattle.dataset_tree.specs.declared.refusal.Refusal.TheVariants.{NoSuch, Exists, NoParent, KeyUnavailable, KeyLoaded, NotRoot, NotEncrypted, KeyFileMissing, BadIters, BadOptions};
 ghost use Rattle.encryption_roots.specs.Options.{no_options};
 ghost use Rattle.encryption_roots.specs.Owners.{family};
+ghost use Rattle.encryption_roots.specs.declared.props.Location.TheVariants.{Prompt, File};
 ghost use Rattle.encryption_roots.specs.declared.kit.Fetched.TheVariants as fetches;
 ghost use Rattle.encryption_roots.specs.declared.kit.SeedGot.TheVariants as seeds;
 ghost use Rattle.encryption_roots.specs.declared.command.KeyCmd.TheVariants as commands;
@@ -12,7 +13,7 @@ ghost use Rattle.key_machine.specs.Plain.{Plain, Ciphers, Hold, no_keys, mkey};
 ghost use Rattle.key_machine.specs.Users.{users_of, mkey_users, wkey_users, word, with_hold, with_mount};
 ghost use Rattle.key_machine.specs.Sound.{SoundUsers};
 ghost use Rattle.key_machine.specs.Create.{new_iters, new_stored};
-ghost use Rattle.key_machine.specs.Step.{refusal_of, told};
+ghost use Rattle.key_machine.specs.Step.{refusal_of, wanted, told};
 ghost use Rattle.key_machine.specs.Told.{nothing_told};
 ghost use Rattle.key_machine.specs.Sample.{sample, held_by_one};
 
@@ -40,10 +41,32 @@ pub fn master_keys_of_families()
 /// A `create` is refused by `Exists`, `NoParent`, `BadOptions` and `BadIters` in this order, then for its key, and then for its seed.
 pub fn creates_are_refused_in_order()
     ensures exists { refusal_of sample (commands.Create (codes "tank") (record no_options { iters = Some 1 })) ≡ Some Exists }
-    ensures parent { refusal_of sample (commands.Create (codes "lake/a") (record no_options { iters = Some 1 })) ≡ Some NoParent }
+    ensures parent { refusal_of sample (commands.Create (codes "sea/a") (record no_options { iters = Some 1 })) ≡ Some NoParent }
     ensures options { refusal_of no_keys (commands.Create (codes "tank") (record no_options { iters = Some 1 })) ≡ Some BadOptions }
     ensures iterations { refusal_of no_keys (commands.Create (codes "tank") (record no_options { format = Some Passphrase; iters = Some 99999 })) ≡ Some BadIters }
     ensures key { (c : Ciphers) → (told c no_keys (commands.Create (codes "tank") (record no_options { format = Some Raw })) (record { old_key = fetches.NotAsked; new_key = fetches.Missing; seed = seeds.Fault })).fault ≡ Some KeyFileMissing }
+{}
+
+/// A load is refused by `NoSuch`, `NotEncrypted`, `NotRoot` and `KeyLoaded` in this order, the last not with `check_only`; an unload by
+/// the same, but `KeyUnavailable` at last.
+pub fn loads_are_refused_in_order()
+    ensures name { refusal_of sample (commands.Load (codes "sea") false None) ≡ Some NoSuch }
+    ensures plain { refusal_of sample (commands.Load (codes "lake") false None) ≡ Some NotEncrypted }
+    ensures heir { refusal_of sample (commands.Load (codes "tank/a") false None) ≡ Some NotRoot }
+    ensures loaded { refusal_of sample (commands.Load (codes "tank") false None) ≡ Some KeyLoaded }
+    ensures check { refusal_of sample (commands.Load (codes "tank") true None) ≡ None }
+    ensures plain_unload { refusal_of sample (commands.Unload (codes "lake")) ≡ Some NotEncrypted }
+    ensures unload { refusal_of (record sample { loaded = [] }) (commands.Unload (codes "tank")) ≡ Some KeyUnavailable }
+{}
+
+/// A key is fetched from the command's location, else from the root's own, else at the prompt; a seed is for what is encrypted.
+pub fn places_of_takings()
+    ensures create { wanted no_keys (commands.Create (codes "tank") (record no_options { format = Some Raw; place = Some (File (codes "/k")) }))
+        ≡ record { old_place = None; new_place = Some (File (codes "/k")); seed = true } }
+    ensures prompt { wanted no_keys (commands.Create (codes "tank") (record no_options { format = Some Raw })) ≡ record { old_place = None; new_place = Some Prompt; seed = true } }
+    ensures plain { wanted no_keys (commands.Create (codes "tank") no_options) ≡ record { old_place = None; new_place = None; seed = false } }
+    ensures own { wanted sample (commands.Load (codes "tank") false None) ≡ record { old_place = None; new_place = Some (File (codes "/t")); seed = false } }
+    ensures given { wanted sample (commands.Load (codes "tank") false (Some (File (codes "/k")))) ≡ record { old_place = None; new_place = Some (File (codes "/k")); seed = false } }
 {}
 
 /// What `create` sets where the options say nothing.

@@ -72,7 +72,8 @@ impl KeyState {
     ) -> Option<&'a (u32, FamilyRecord)>
         ensures { option_copied result ≡ find (λ entry. is_wrong self.now root key.now entry) records.now }
     {
-        records.iter().find(|entry| self.owns(root, entry.0) && opened(&entry.1.wrapped, key).is_none())
+        records.iter().find(|entry| self.owns(root, entry.0)
+            && opened(&entry.1.wrapped, key).is_none())
     }
 
     /// Whether the root owns the family's record.

@@ -12,7 +12,8 @@ mod seed_words;
 mod tests;
 
 pub use places::{
-    GUID_PLACE, HMAC_PLACE, MASTER_PLACE, SALT_PLACE, SALTS_SEED_PLACE, place_of_vector,
+    GUID_PLACE, HMAC_PLACE, MASTER_PLACE, SALT_PLACE, SALTS_SEED_PLACE, constants_are_the_places,
+    place_of_vector,
 };
 pub use salts::{Drawn, MAX_DRAWS, MAX_SALT_USES, Salts};
 pub use seed_words::SeedWords;

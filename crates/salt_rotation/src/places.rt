@@ -1,6 +1,6 @@
 // Where the words of a seed stand that a command takes from entropy.
 ghost use Rattle.std.specs.Prelude.{◌≡◌};
-ghost use Rattle.salt_rotation.specs.Places.{vector_place};
+ghost use Rattle.salt_rotation.specs.Places.{guid_place, hmac_place, master_place, salt_place, salts_seed_place, vector_place};
 
 /// The place of the master key, of which a suite takes the first 16, 24 or 32 bytes.
 pub const MASTER_PLACE: u64 = 0;
@@ -39,3 +39,13 @@ pub fn place_of_vector(record_number: u32) -> u64
 {
     FIRST_VECTOR_PLACE + VECTOR_WORDS * u64::from(record_number)
 }
+
+/// The constants are the places of the definitions: a law, which does nothing.
+pub fn constants_are_the_places()
+    ensures master { MASTER_PLACE ≡ master_place }
+    ensures hmac { HMAC_PLACE ≡ hmac_place }
+    ensures guid { GUID_PLACE ≡ guid_place }
+    ensures salts_seed { SALTS_SEED_PLACE ≡ salts_seed_place }
+    ensures salt { SALT_PLACE ≡ salt_place }
+    ensures first_vector { FIRST_VECTOR_PLACE ≡ vector_place 0 }
+{}

@@ -11,10 +11,10 @@ use std::marker::Model;
 /// The largest number of draws that one salt may serve.
 pub const MAX_SALT_USES: u64 = 400_000_000;
 
-const _: () = prove!(MAX_SALT_USES == 400_000_000);
-
 /// How many draws a seed gives at most.
 pub const MAX_DRAWS: u64 = 1 << 48;
+
+const _: () = prove!(MAX_SALT_USES == 400_000_000 && MAX_DRAWS == 281_474_976_710_656);
 
 // The place of the first initialization vector's first word.
 const FIRST_IV_PLACE: u64 = 1 << 60;

@@ -51,6 +51,7 @@ fn a_limit_of_two_changes_the_salt_each_second_draw(rt: HostRuntime) {
         [78, 182, 133, 183, 215, 56, 74, 7, 234, 26, 220, 47]
     );
     assert_eq!(rt; salts.made(), 5);
+    assert_eq!(rt; Salts::new(SEED, 1).made(), 0);
 }
 
 #[test]

@@ -1,5 +1,5 @@
 -- What a shelf tells, and what each call makes of it.
-use Rattle.std.specs.Prelude.{ℕ, ◌+◌, ◌-◌, ◌^◌, ◌≡◌, ◌≤◌, ◌==◌, Bool, false, if◌then◌else◌, min, max, List, [], ◌∷◌, ◌++◌, map, length, sum, bit_xor, Option, Some, None, IfSome, slice_index, slice_index_or, slice_set}
+use Rattle.std.specs.Prelude.{ℕ, zero, suc, ◌+◌, ◌-◌, ◌^◌, ◌≡◌, ◌≤◌, ◌==◌, Bool, false, if◌then◌else◌, min, List, [], ◌∷◌, ◌++◌, map, length, sum, bit_xor, Option, Some, None, IfSome, slice_index, slice_index_or, slice_set}
 use Rattle.std.specs.Option.{option_map}
 use Rattle.shelf_store.specs.declared.shelf.TheConstants.{SHELF_BYTES}
 
@@ -39,13 +39,17 @@ unfoldable pub armed_after : Option ℕ → Option ℕ
 armed_after None = None
 armed_after (Some calls) = if calls == 0 then None else Some (calls - 1)
 
--- the count of failures after one more; it stands still at its type's end
-abbrev pub risen : ℕ → ℕ
-risen count = max count (min (count + 1) (2 ^ 64 - 1))
+-- one more: a count stands still at the end of its 64 bits
+abbrev pub one_more : ℕ → ℕ
+one_more count = min (count + 1) (2 ^ 64 - 1)
+
+-- the count rose, or stands at the end of its 64 bits
+abbrev pub Rose : ℕ → ℕ → Type 0
+Rose before now = one_more before ≤ now
 
 -- the count of failures after a call of put or get, which fails where it is due
 unfoldable pub faults_after : Option ℕ → ℕ → ℕ
-faults_after armed faults = if is_due armed then risen faults else faults
+faults_after armed faults = if is_due armed then one_more faults else faults
 
 -- a call of put or get was counted
 abbrev pub counted : ShelfState → ShelfState
@@ -53,6 +57,11 @@ counted s = record s {
   faults = faults_after s.armed s.faults;
   armed = armed_after s.armed;
 }
+
+-- so many calls of put or get were counted
+abbrev pub after_calls : ℕ → ShelfState → ShelfState
+after_calls zero s = s
+after_calls (suc calls) s = after_calls calls (counted s)
 
 -- one more block was put at the end
 abbrev pub with_block : ShelfState → List ℕ → ShelfState

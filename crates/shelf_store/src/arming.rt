@@ -1,5 +1,5 @@
-ghost use Rattle.std.specs.Prelude.{◌≡◌};
-ghost use Rattle.shelf_store.specs.ShelfState.{is_due, armed_after, faults_after};
+ghost use Rattle.std.specs.Prelude.{◌≡◌, IsTrue};
+ghost use Rattle.shelf_store.specs.ShelfState.{Rose, is_due, armed_after, faults_after};
 
 /// How often a shelf failed, and in how many further calls it fails, if that is armed.
 #[derive(Clone, Copy, PartialEq, Eq)]
@@ -19,6 +19,7 @@ impl Arming {
     pub fn count(&mut self) -> bool
         ensures value { result ≡ is_due self.old.armed }
         ensures faults { self.new.faults ≡ faults_after self.old.armed self.old.faults }
+        ensures rose { IsTrue result → Rose self.old.faults self.new.faults }
         ensures armed { self.new.armed ≡ armed_after self.old.armed }
     {
         match self.armed {

@@ -15,4 +15,4 @@ mod tests;
 
 pub use errors::{Failed, NoMemory, ShelfError};
 pub use mem_shelf::MemShelf;
-pub use shelf::{SHELF_BYTES, Shelf};
+pub use shelf::{SHELF_BYTES, Shelf, each_arming_lets_one_call_fail};

@@ -54,7 +54,7 @@ impl Shelf for MemShelf {
             return Err(ShelfError::Full);
         }
         let address = self.slots.len() as u64;
-        let slot = Slot::new(self.alloc, block).map_err(|_| ShelfError::NoMemory)?;
+        let slot = Slot::new(self.alloc, block)?;
         self.slots.push(slot).map_err(|_| ShelfError::NoMemory)?;
         self.used += size;
         Ok(address)
@@ -91,10 +91,7 @@ impl Shelf for MemShelf {
     fn copy(&self) -> Result<Self, NoMemory> {
         let mut slots = Vec::new(self.alloc);
         for slot in &self.slots {
-            let copy = slot.copy(self.alloc)?;
-            if slots.push(copy).is_err() {
-                return Err(NoMemory);
-            }
+            slots.push(slot.copy(self.alloc)?)?;
         }
         Ok(MemShelf {
             alloc: self.alloc,

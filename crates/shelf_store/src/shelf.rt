@@ -1,11 +1,13 @@
-ghost use Rattle.std.specs.Prelude.{◌≡◌, ◌+◌, ◌<◌, ◌↔◌, length, sum, Some, IsTrue, IsErr, IfOk, OnOk, OnErr, IfSome, IsSome, slice_get, slice_index, Bool, false};
-ghost use Rattle.shelf_store.specs.ShelfState.{ShelfState, empty_shelf, HasToldSizes, is_due, counted, with_block, altered};
+ghost use Rattle.std.specs.Prelude.{◌≡◌, ℕ, ◌==◌, ◌+◌, ◌<◌, ◌≤◌, ◌↔◌, length, sum, Some, IsTrue, IsErr, IfOk, OnOk, OnErr, IfSome, IsSome, slice_get, slice_index, Bool, false};
+ghost use Rattle.shelf_store.specs.ShelfState.{ShelfState, empty_shelf, HasToldSizes, Rose, is_due, one_more, counted, after_calls, with_block, altered};
 
 use crate::errors::{Failed, NoMemory, ShelfError};
 use std::alloc::Global;
 
 /// How many bytes the blocks of one shelf have together at most.
 pub const SHELF_BYTES: u64 = 33_554_432;
+
+const _: () = prove!(SHELF_BYTES == 33_554_432);
 
 /// An append-only store of blocks.
 ///
@@ -22,13 +24,15 @@ pub trait Shelf: Sized + Drop {
     ///
     /// The allocator is kept, so no other call takes one.
     fn fresh(alloc: Global) -> Result<Self, NoMemory>
-        ensures { IfOk result (λ shelf. told shelf ≡ empty_shelf tells) };
+        ensures empty { IfOk result (λ shelf. told shelf ≡ empty_shelf tells) }
+        ensures sizes { IfOk result (λ shelf. HasToldSizes (told shelf)) };
 
     /// Puts a block at the end, and gives its address, which is the number of blocks before it.
     ///
     /// Whatever it answers, this is one of the calls that `fail_after` counts.
     fn put(&mut self, block: &[u8]) -> Result<u64, ShelfError>
         ensures fault { (result ≡ Err ShelfError.Fault) ↔ IsTrue (is_due (told self.old).armed) }
+        ensures rose { result ≡ Err ShelfError.Fault → Rose (told self.old).faults (told self.new).faults }
         ensures full { (result ≡ Err ShelfError.Full) ↔ ((is_due (told self.old).armed ≡ false)
             × (SHELF_BYTES < sum (told self.old).sizes + length block.now)) }
         ensures address { IfOk result (λ address. address ≡ length (told self.old).sizes) }
@@ -43,6 +47,7 @@ pub trait Shelf: Sized + Drop {
         requires there { addr < length (told self.old).sizes }
         requires fits { length out.old ≡ slice_index (told self.old).sizes addr }
         ensures failed { IsErr result ↔ IsTrue (is_due (told self.old).armed) }
+        ensures rose { OnErr result (Rose (told self.old).faults (told self.new).faults) }
         ensures bytes { OnOk result (IfSome (told self.old).held (λ blocks. slice_get blocks addr ≡ Some out.new)) }
         ensures err { OnErr result (out.new ≡ out.old) }
         ensures after { told self.new ≡ counted (told self.old) }
@@ -71,11 +76,13 @@ pub trait Shelf: Sized + Drop {
     /// Arms a failure: of the calls of `put` and `get` from now on, the one numbered `calls`, from
     /// 0, fails. It replaces a failure that was armed and not reached.
     fn fail_after(&mut self, calls: u64)
-        ensures { told self.new ≡ record (told self.old) { armed = Some calls } };
+        ensures armed { told self.new ≡ record (told self.old) { armed = Some calls } }
+        ensures sizes { HasToldSizes (told self.new) };
 
     /// An equal shelf.
     fn copy(&self) -> Result<Self, NoMemory>
-        ensures { IfOk result (λ shelf. told shelf ≡ told self.now) };
+        ensures equal { IfOk result (λ shelf. told shelf ≡ told self.now) }
+        ensures sizes { IfOk result (λ shelf. HasToldSizes (told shelf)) };
 
     /// Whether the shelves have the same sizes, blocks, failures and armed failure. It takes no
     /// memory. Of shelves that don't tell their blocks, true says that those are the same too, but
@@ -85,3 +92,14 @@ pub trait Shelf: Sized + Drop {
         ensures differs { IsSome (told self.now).placed → IsSome (told self.now).held
             → told self.now ≡ told other.now → IsTrue result };
 }
+
+/// Each arming lets exactly one call fail, of those of `put` and `get` behind it the one with the armed number, and this raises
+/// the count of failures by one: a law, which does nothing.
+pub fn each_arming_lets_one_call_fail()
+    ensures due { (s : ShelfState) (number calls : ℕ) → s.armed ≡ Some number
+        → is_due (after_calls calls s).armed ≡ (calls == number) }
+    ensures before { (s : ShelfState) (number calls : ℕ) → s.armed ≡ Some number → calls ≤ number
+        → (after_calls calls s).faults ≡ s.faults }
+    ensures behind { (s : ShelfState) (number calls : ℕ) → s.armed ≡ Some number → number < calls
+        → (after_calls calls s).faults ≡ one_more s.faults }
+{}

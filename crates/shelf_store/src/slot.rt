@@ -32,13 +32,11 @@ impl Slot {
     pub fn new(alloc: Global, block: &[u8]) -> Result<Slot, NoMemory>
         ensures { IfOk result (λ slot. slot ≡ record { placed = block.now; held = block.now }) }
     {
-        match Vec::from_slice(alloc, block) {
-            Ok(held) => Ok(Slot {
-                held,
-                original: None,
-            }),
-            Err(_) => Err(NoMemory),
-        }
+        let held = Vec::from_slice(alloc, block)?;
+        Ok(Slot {
+            held,
+            original: None,
+        })
     }
 
     pub fn held(&self) -> &[u8]
@@ -66,10 +64,7 @@ impl Slot {
         ensures length { length self.new.held ≡ length self.old.held }
     {
         if self.original.is_none() {
-            match Vec::from_slice(alloc, &self.held) {
-                Ok(original) => self.original = Some(original),
-                Err(_) => return Err(NoMemory),
-            }
+            self.original = Some(Vec::from_slice(alloc, &self.held)?);
         }
         self.held[at] ^= mask;
         Ok(())
@@ -80,10 +75,7 @@ impl Slot {
     {
         let mut copy = Slot::new(alloc, &self.held)?;
         if let Some(original) = &self.original {
-            match Vec::from_slice(alloc, original) {
-                Ok(original) => copy.original = Some(original),
-                Err(_) => return Err(NoMemory),
-            }
+            copy.original = Some(Vec::from_slice(alloc, original)?);
         }
         Ok(copy)
     }

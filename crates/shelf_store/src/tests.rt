@@ -1,6 +1,6 @@
 ghost use Rattle.std.specs.Prelude.{◌≡◌, None, OnOk, IfSome, length};
 
-use crate::{Failed, MemShelf, SHELF_BYTES, Shelf, ShelfError};
+use crate::{Failed, MemShelf, Shelf, ShelfError};
 use std::test::Fail;
 
 // Puts a block and reads it back, at any shelf with no armed failure.
@@ -37,24 +37,8 @@ fn a_shelf_is_full_at_its_limit(rt: HostRuntime) -> Result<(), Fail> {
     for address in 0..256u64 {
         assert_eq!(rt; shelf.put(&block), Ok(address));
     }
-    assert_eq!(rt; SHELF_BYTES, 256 * 131_072);
     assert_eq!(rt; shelf.put(&[0]), Err(ShelfError::Full));
     assert_eq!(rt; shelf.put(&[]), Ok(256));
-    Ok(())
-}
-
-#[test]
-fn an_armed_failure_comes_once_at_its_call(rt: HostRuntime) -> Result<(), Fail> {
-    let mut shelf = MemShelf::fresh(rt.alloc())?;
-    shelf.fail_after(1);
-    assert_eq!(rt; shelf.put(b"a"), Ok(0));
-    assert_eq!(rt; shelf.put(b"b"), Err(ShelfError::Fault));
-    assert_eq!(rt; shelf.put(b"b"), Ok(1));
-    let mut out = [0; 1];
-    shelf.fail_after(0);
-    assert_eq!(rt; shelf.get(1, &mut out), Err(Failed));
-    assert_eq!(rt; shelf.get(1, &mut out), Ok(()));
-    assert_eq!(rt; out, *b"b");
     Ok(())
 }
 

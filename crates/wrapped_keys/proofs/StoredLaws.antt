@@ -1,6 +1,6 @@
 -- The stored form of a record, and its reading.
-use Rattle.std.proofs.Common.{◌≡◌, ◌≢◌, ℕ, ◌+◌, ◌^◌, ◌<◌, ◌≤◌, inl, inr, true, false, ◌==◌, List, [], ◌∷◌, ◌++◌, length, take, drop, slice_index, Some, None, refl, sym, ap, ◌∙◌, arith, length-append, length-take, length-drop}
-use Rattle.std.proofs.lemmas.Bool.{eq-eqb, ne_eqb}
+use Rattle.std.proofs.Common.{◌≡◌, ℕ, ◌+◌, ◌^◌, ◌<◌, ◌≤◌, inl, inr, true, ◌==◌, List, [], ◌∷◌, ◌++◌, length, take, drop, slice_index, Some, refl, ap, ◌∙◌, arith, length-append, length-take, length-drop}
+use Rattle.std.proofs.lemmas.Bool.{eq-eqb}
 use Rattle.std.proofs.lemmas.List.{take_at, drop_at, length-take-le, get_or-take, get_or_past, append_assoc, take-append-drop, drop_more}
 use Rattle.std.proofs.lemmas.Bool.{cases_lt}
 use Rattle.dataset_tree.specs.declared.kinds.Suite.{Suite}
@@ -10,7 +10,7 @@ use Rattle.byte_fields.specs.LittleEndian.{little_endian_bytes, little_endian_va
 use Rattle.byte_fields.proofs.FieldLaws.{little_endian_value-bytes, little_endian_bytes-value}
 use Rattle.wrapped_keys.specs.Values.{MasterValue, RecordValue, sealed_len, IsMasterKey, IsRecord}
 use Rattle.wrapped_keys.specs.Wrapping.{record_of, opens}
-use Rattle.wrapped_keys.specs.Stored.{header_bytes, record_bytes, record_at, parsed_record, opens_bytes}
+use Rattle.wrapped_keys.specs.Stored.{header_bytes, record_bytes, record_at, suite_of, parsed_record, opens_bytes}
 use Rattle.wrapped_keys.specs.PaddedRecord.{IsPaddedRecord, record_value}
 use Rattle.wrapped_keys.specs.declared.key_record.KeyRecord.TheInside.{Inside}
 use Rattle.wrapped_keys.proofs.WrappingLaws.{length-aead_seal, length-aead_tag, opens-record_of}
@@ -21,32 +21,9 @@ suite_numbered-number Aes128Gcm = refl
 suite_numbered-number Aes192Gcm = refl
 suite_numbered-number Aes256Gcm = refl
 
--- ---- the reading, by its tests
+-- ---- the reading
 
-pub parsed_short : (bytes : List ℕ) → length bytes ≤ 8 → parsed_record bytes ≡ None
-unfolding parsed_record
-parsed_short bytes short = rw (get_or_past bytes 8 0 short) refl
-
-pub parsed_no_suite : (bytes : List ℕ) → suite_numbered (slice_index bytes 8) ≡ None → parsed_record bytes ≡ None
-unfolding parsed_record
-parsed_no_suite bytes none = rw none refl
-
-pub parsed_other_length : (suite : Suite) (bytes : List ℕ) → suite_numbered (slice_index bytes 8) ≡ Some suite
-    → length bytes ≢ 38 + sealed_len suite → parsed_record bytes ≡ None
-unfolding parsed_record
-parsed_other_length suite bytes named other =
-    let short : (length bytes == 38 + sealed_len suite) ≡ false = ne_eqb (length bytes) (38 + sealed_len suite) other in
-    rw (named, short) refl
-
-pub parsed_other_version : (suite : Suite) (bytes : List ℕ) → suite_numbered (slice_index bytes 8) ≡ Some suite
-    → length bytes ≡ 38 + sealed_len suite → slice_index bytes 9 ≢ 1 → parsed_record bytes ≡ None
-unfolding parsed_record
-parsed_other_version suite bytes named whole other =
-    let long : (length bytes == 38 + sealed_len suite) ≡ true = eq-eqb (length bytes) (38 + sealed_len suite) whole in
-    let old : (slice_index bytes 9 == 1) ≡ false = ne_eqb (slice_index bytes 9) 1 other in
-    rw (named, long, old) refl
-
-pub parsed_good : (suite : Suite) (bytes : List ℕ) → suite_numbered (slice_index bytes 8) ≡ Some suite
+pub parsed_good : (suite : Suite) (bytes : List ℕ) → suite_of bytes ≡ Some suite
     → length bytes ≡ 38 + sealed_len suite → slice_index bytes 9 ≡ 1
     → parsed_record bytes ≡ Some (record_at suite bytes)
 unfolding parsed_record
@@ -96,9 +73,9 @@ unfolding record_bytes header_bytes little_endian_bytes
 length-record_bytes r is =
     omega (arith, length-append (r.iv ++ r.mac) r.sealed, length-append r.iv r.mac, is.iv, is.mac, is.sealed)
 
-bytes_name_suite : (r : RecordValue) → suite_number r.suite ≡ slice_index (record_bytes r) 8
+bytes_name_suite : (r : RecordValue) → suite_of (record_bytes r) ≡ Some r.suite
 unfolding record_bytes header_bytes little_endian_bytes
-bytes_name_suite r = refl
+bytes_name_suite r = suite_numbered-number r.suite
 
 bytes_have_version : (r : RecordValue) → slice_index (record_bytes r) 9 ≡ r.version
 unfolding record_bytes header_bytes little_endian_bytes
@@ -106,7 +83,7 @@ bytes_have_version r = refl
 
 pub parsed_record-record_bytes : (r : RecordValue) → IsRecord r → parsed_record (record_bytes r) ≡ Some r
 parsed_record-record_bytes r is =
-    parsed_good r.suite (record_bytes r) (ap suite_numbered (sym (bytes_name_suite r)) ∙ suite_numbered-number r.suite) (length-record_bytes r is) (bytes_have_version r ∙ is.version)
+    parsed_good r.suite (record_bytes r) (bytes_name_suite r) (length-record_bytes r is) (bytes_have_version r ∙ is.version)
     ∙ ap Some (record_at-bytes r is)
 
 pub is_record-value : (a : Inside) → IsPaddedRecord a → a.guid < 2 ^ 64 → length a.iv ≡ 12 → length a.mac ≡ 16 → length a.sealed ≡ 96

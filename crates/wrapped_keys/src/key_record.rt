@@ -105,6 +105,7 @@ impl KeyRecord {
         header
     }
 
+    #[tactic(auto, unfolding(crate::specs::Stored::parsed_record))]
     /// The record that is stored in these bytes: `None` where suite, length or version is not that
     /// of a record.
     pub fn from_bytes(bytes: &RecordBytes) -> Option<KeyRecord>

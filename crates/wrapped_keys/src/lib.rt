@@ -5,7 +5,7 @@ mod aead;
 mod key_record;
 mod master_key;
 
-pub use aead::{aead_open, aead_seal};
+pub use aead::{MAX_AAD_LEN, aead_open, aead_seal};
 pub use gcm_seal::BadTag;
 pub use key_record::{KeyRecord, unwrap, wrap};
 pub use master_key::MasterKey;

@@ -1,0 +1,6 @@
+pub mod Entries
+pub mod Nodes
+pub mod Walk
+pub mod Places
+pub mod Calls
+pub mod Fold

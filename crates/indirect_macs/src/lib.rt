@@ -1,0 +1,24 @@
+//! Trees of references to the sealed blocks of an object, and their MACs.
+//!
+//! The leaves are references to blocks, 32 of them in a node of level 1. A node of a higher level
+//! has 32 references to nodes of the level below. Each reference has the MAC of what it names, so
+//! the MAC of the top covers all. A node without references isn't stored: it is a hole.
+#![tactic(auto)]
+
+mod entry;
+mod fold;
+mod laws;
+mod node;
+mod refs;
+mod walk;
+
+pub use fold::fold_mac;
+pub use laws::{
+    block_nodes_have_one_spelling, ref_nodes_have_one_spelling,
+    walks_stop_at_the_first_place_that_fails,
+};
+pub use refs::{BlockRef, MacError, NodeRef, ObjTree};
+pub use walk::lookup;
+
+#[cfg(test)]
+mod tests;

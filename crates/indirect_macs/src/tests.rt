@@ -1,0 +1,124 @@
+use crate::{BlockRef, MacError, NodeRef, ObjTree, fold_mac, lookup};
+use shelf_store::{MemShelf, Shelf};
+use std::test::Fail;
+
+// A block of 512 bytes at address 7, with a salt, an initialization vector and a MAC of bytes 1, 2
+// and 3.
+const BLOCK: BlockRef = BlockRef {
+    size: 512,
+    addr: 7,
+    salt: [1; 8],
+    iv: [2; 12],
+    mac: [3; 16],
+};
+
+// Its entry in a node of level 1.
+const ENTRY: [u8; 49] = [
+    0x01, 0x00, 0x02, 0x00, 0x00, 0x07, 0x00, 0x00, 0x00, 0x00, 0x00, 0x00, 0x00, 0x01, 0x01, 0x01,
+    0x01, 0x01, 0x01, 0x01, 0x01, 0x02, 0x02, 0x02, 0x02, 0x02, 0x02, 0x02, 0x02, 0x02, 0x02, 0x02,
+    0x02, 0x03, 0x03, 0x03, 0x03, 0x03, 0x03, 0x03, 0x03, 0x03, 0x03, 0x03, 0x03, 0x03, 0x03, 0x03,
+    0x03,
+];
+
+// The MACs of nodes, by Python's hashlib: of level 1 with the block in its second entry, of level 2
+// with that node in its second entry, and of level 3 over 1025 blocks of which the last is no hole.
+const MAC_1: [u8; 16] = [
+    0x1a, 0xdc, 0x40, 0x92, 0x77, 0x9f, 0x7a, 0xa7, 0x62, 0xbf, 0x93, 0x26, 0xb4, 0x7e, 0x92, 0xc7,
+];
+
+const MAC_2: [u8; 16] = [
+    0xd8, 0x93, 0x0b, 0x3a, 0xaa, 0x65, 0x4b, 0xc0, 0xf8, 0x03, 0xae, 0x9d, 0x09, 0xe7, 0x6c, 0x40,
+];
+
+const MAC_3: [u8; 16] = [
+    0xdb, 0x17, 0x5f, 0x26, 0x62, 0x31, 0xeb, 0xeb, 0x0d, 0x03, 0x63, 0xb8, 0x32, 0x8c, 0x64, 0x35,
+];
+
+// The tree of 64 blocks of which only block 33 is no hole, where its nodes are at 0 and 1.
+const TREE: ObjTree = ObjTree {
+    levels: 2,
+    top: Some(NodeRef {
+        addr: 1,
+        mac: MAC_2,
+    }),
+};
+
+fn leaf() -> [u8; 1568] {
+    let mut node = [0; 1568];
+    node[49..98].copy_from_slice(&ENTRY);
+    node
+}
+
+fn top() -> [u8; 800] {
+    let mut node = [0; 800];
+    node[25] = 1;
+    node[34..50].copy_from_slice(&MAC_1);
+    node
+}
+
+#[test]
+fn macs_are_those_of_another_implementation(rt: HostRuntime) -> Result<(), Fail> {
+    let alloc = rt.alloc();
+    assert_eq!(rt; fold_mac(alloc, &[]), Ok(None));
+    assert_eq!(rt; fold_mac(alloc, &[None; 40]), Ok(None));
+    assert_eq!(rt; fold_mac(alloc, &[None, Some(BLOCK)]), Ok(Some(MAC_1)));
+    let mut refs = [None; 1025];
+    refs[33] = Some(BLOCK);
+    assert_eq!(rt; fold_mac(alloc, &refs[..34]), Ok(Some(MAC_2)));
+    refs[33] = None;
+    refs[1024] = Some(BLOCK);
+    assert_eq!(rt; fold_mac(alloc, &refs), Ok(Some(MAC_3)));
+    Ok(())
+}
+
+#[test]
+fn a_block_is_found_and_a_hole_is_none(rt: HostRuntime) -> Result<(), Fail> {
+    let mut shelf = MemShelf::fresh(rt.alloc())?;
+    assert_eq!(rt; shelf.put(&leaf()), Ok(0));
+    assert_eq!(rt; shelf.put(&top()), Ok(1));
+    assert_eq!(rt; lookup(&TREE, &mut shelf, 33, 512), Ok(Some(BLOCK)));
+    assert_eq!(rt; lookup(&TREE, &mut shelf, 32, 512), Ok(None));
+    assert_eq!(rt; lookup(&TREE, &mut shelf, 0, 512), Ok(None));
+    let failed = MacError::MacFailed { level: 1, index: 1 };
+    assert_eq!(rt; lookup(&TREE, &mut shelf, 33, 511), Err(failed));
+    Ok(())
+}
+
+#[test]
+fn the_first_place_that_fails_is_named(rt: HostRuntime) -> Result<(), Fail> {
+    let mut shelf = MemShelf::fresh(rt.alloc())?;
+    assert_eq!(rt; shelf.put(&leaf()), Ok(0));
+    assert_eq!(rt; shelf.put(&top()), Ok(1));
+    assert_eq!(rt; shelf.alter(0, 80, 1), Ok(()));
+    let failed = MacError::MacFailed { level: 1, index: 1 };
+    assert_eq!(rt; lookup(&TREE, &mut shelf, 33, 512), Err(failed));
+    assert_eq!(rt; lookup(&TREE, &mut shelf, 0, 512), Ok(None));
+    let other = ObjTree {
+        levels: 2,
+        top: Some(NodeRef {
+            addr: 1,
+            mac: MAC_1,
+        }),
+    };
+    let top_failed = MacError::MacFailed { level: 2, index: 0 };
+    assert_eq!(rt; lookup(&other, &mut shelf, 33, 512), Err(top_failed));
+    Ok(())
+}
+
+// The leaf's address isn't under the top's MAC. Where it names no block, the leaf isn't read, and an
+// armed failure stays for the next call.
+#[test]
+fn a_node_that_is_not_there_is_not_read(rt: HostRuntime) -> Result<(), Fail> {
+    let mut shelf = MemShelf::fresh(rt.alloc())?;
+    assert_eq!(rt; shelf.put(&leaf()), Ok(0));
+    assert_eq!(rt; shelf.put(&top()), Ok(1));
+    assert_eq!(rt; shelf.alter(1, 26, 4), Ok(()));
+    shelf.fail_after(1);
+    let failed = MacError::MacFailed { level: 1, index: 1 };
+    assert_eq!(rt; lookup(&TREE, &mut shelf, 33, 512), Err(failed));
+    assert_eq!(rt;
+        lookup(&TREE, &mut shelf, 33, 512),
+        Err(MacError::ShelfFault)
+    );
+    Ok(())
+}

@@ -1,4 +1,0 @@
-use Rattle.key_machine.proofs.laws.mounts_and_holds_are_bounded.Goals as goal
-
-pub returns-clause-holds : goal.returns-clause-holds
-returns-clause-holds c = λ ciphers p rider sound. sound.users.few rider
