@@ -116,9 +116,9 @@ written_whole (BadLine number at) closed t0 t1 t2 replies last closes_as taken m
 closes_nil : (line last : List ℕ) (before now : ℕ) → line ≡ [] → Closes line last before now → last ≡ []
 closes_nil line last before now empty closed =
     ⊎_elim (λ whole. whole.0 ∙ empty) (λ cut. absurd (cut.0.2 (second last cut.0.0 (sym cut.0.1 ∙ empty)))) closed where
-  second : (xs ys : List ℕ) → xs ++ ys ≡ [] → ys ≡ []
-  second [] ys e = e
-  second (x ∷ xs) ys e = absurd (cc)
+      second : (xs ys : List ℕ) → xs ++ ys ≡ [] → ys ≡ []
+      second [] ys e = e
+      second (x ∷ xs) ys e = absurd (cc)
 
 closes_from : (line last : List ℕ) (first before now : ℕ) → before ≡ first → Closes line last before now → Closes line last first now
 closes_from line last first before now same closed = subst (λ n. Closes line last n now) same closed
@@ -186,9 +186,10 @@ made_front WriteFault run replies made came =
     front_of_run run came.turns came.later made came.whole ([], sym ((came.cut refl).3) ∙ sym (append-nil made))
 made_front NoMemory run replies made came =
     let there = came.stopped refl in
-    front_of_run run came.turns came.later made came.whole
-    (there.2.0,
-      made_both came.turns (take 1 came.later) ∙ ap (λ xs. made_in came.turns ++ xs) there.2.1 ∙ sym (append_assoc (made_in came.turns) there.0 there.2.0) ∙ ap (λ xs. xs ++ there.2.0) (sym there.1))
+    front_of_run run came.turns came.later made came.whole (
+      there.2.0,
+      made_both came.turns (take 1 came.later) ∙ ap (λ xs. made_in came.turns ++ xs) there.2.1 ∙ sym (append_assoc (made_in came.turns) there.0 there.2.0) ∙ ap (λ xs. xs ++ there.2.0) (sym there.1),
+    )
 made_front Done run replies made came =
     front_of_run run came.turns came.later made came.whole (front_of_turns came.turns came.later made (came.taken (λ e. absurd (omega (arith, e))) (λ e. absurd (omega (arith, e)))))
 made_front Usage run replies made came =
@@ -206,10 +207,11 @@ enough_bytes number left (first ∷ xs) enough fails =
     let none : first ≡ false = fails.0 ∙ long_enough left (omega (arith, enough)) in
     let rest : FailWhereListedOrShort [] (one_more number) (drop 32 left) xs = subst (λ (b : Bool). FailWhereListedOrShort [] (one_more number) (if b then left else drop 32 left) xs) none fails.1 in
     (none, enough_bytes (one_more number) (drop 32 left) xs (dropped left (length xs) (omega (arith, enough))) rest) where
-  long_enough : (left : List ℕ) → 32 ≤ length left → is_short left ≡ false
-  long_enough left long = grind (arith, nat_tests)
-  dropped : (left : List ℕ) (n : ℕ) → 32 * (n + 1) ≤ length left → 32 * n ≤ length (drop 32 left)
-  dropped left n long = omega (arith, length-drop 32 left, long)
+      long_enough : (left : List ℕ) → 32 ≤ length left → is_short left ≡ false
+      long_enough left long = grind (arith, nat_tests)
+
+      dropped : (left : List ℕ) (n : ℕ) → 32 * (n + 1) ≤ length left → 32 * n ≤ length (drop 32 left)
+      dropped left n long = omega (arith, length-drop 32 left, long)
 
 no_fills : (made : List Taking) → AllByRecursion (λ fails. fails ≡ false) (fills_of made) → AllByRecursion (λ entry. is_fill entry.what ≡ false) (failures made)
 no_fills [] none = tt

@@ -171,16 +171,18 @@ came_preceded front b status replies made c = record {
   replied = λ other. ap (λ zs. replies_of front ++ zs) (c.replied other) ∙ sym (replies_both front c.turns);
   taken = λ other memory. ap (λ zs. made_in front ++ zs) (c.taken other memory) ∙ sym (made_both front c.turns);
   cut = λ five.
-      let there = c.cut five in
-      (there.0,
+      let there = c.cut five in (
+        there.0,
         ap (λ zs. replies_of front ++ zs) there.1 ∙ sym (append_assoc (replies_of front) (replies_of c.turns) there.0) ∙ ap (λ zs. zs ++ there.0) (sym (replies_both front c.turns)),
         there.2,
-        ap (λ zs. made_in front ++ zs) there.3 ∙ sym (made_both front (c.turns ++ take 1 c.later)) ∙ ap made_in (sym (append_assoc front c.turns (take 1 c.later))));
+        ap (λ zs. made_in front ++ zs) there.3 ∙ sym (made_both front (c.turns ++ take 1 c.later)) ∙ ap made_in (sym (append_assoc front c.turns (take 1 c.later))),
+      );
   stopped = λ twelve.
-      let there = c.stopped twelve in
-      (there.0,
+      let there = c.stopped twelve in (
+        there.0,
         ap (λ zs. made_in front ++ zs) there.1 ∙ sym (append_assoc (made_in front) (made_in c.turns) there.0) ∙ ap (λ zs. zs ++ there.0) (sym (made_both front c.turns)),
-        there.2);
+        there.2,
+      );
 }
 
 taken_more : (e : Ending) (t0 t1 t2 : Option (List ℕ)) (xs ys : List ℕ) → Appends t0 t1 xs → Taken e t1 t2 ys → Taken e t0 t2 (xs ++ ys)
@@ -387,6 +389,7 @@ line_not_taken told left e n outer world t few none = record { made = []; takes 
   each : (bytes : List ℕ) (found : List FoundEntry) (world : Option World) → TakesNone e n bytes left → IfSome world (λ w. EndsSo e (run_from n (lines bytes) found w) [] t t)
   each bytes found None none = tt
   each bytes found (Some w) none = no_line_ends e n bytes left found w t few none
+
   said : (told : Option (List ℕ)) → IfSome told (λ bytes. TakesNone e n bytes left) → IfSome told (λ bytes. WhereTold world [] (λ found w. LineRan (Some e) n bytes left found w world t t []))
   said None none = tt
   said (Some bytes) none = λ found agrees. each bytes found world none

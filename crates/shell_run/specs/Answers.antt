@@ -53,7 +53,6 @@ pub record Acts (n : ℕ) (old new : Outer) (Said : List Taking → Type 0) : Ty
 abbrev pub WhereTold : Option World → List Taking → (List FoundEntry → World → Type 0) → Type 0
 WhereTold world made Said = (entries : List FoundEntry) → Agrees entries made → IfSome world (λ w. Said entries w)
 
-
 abbrev pub is_fault : Fetched → Bool
 is_fault fetches.NotAsked = false
 is_fault (fetches.Got material) = false

@@ -64,26 +64,24 @@ pub fn run_alone<S: Source, O: Sink, F: KeyFiles, E: Entropy>(
     requires { found.old ≡ [] }
 
     // What is told of the outside before and after, and how far the run came of the transcript in which the listed takings fail.
-    ensures ran {
-        let before : Outer = record {
-            files = F.files files.old;
-            fetches = calls_of (F.calls files.old) (F.failing files.old) (F.faults files.old);
-            entropy = E.left entropy.old;
-            fills = calls_of (E.calls entropy.old) (E.failing entropy.old) (E.faults entropy.old);
-            found = found.old;
-        } in
+    ensures ran { let before : Outer = record {
+      files = F.files files.old;
+      fetches = calls_of (F.calls files.old) (F.failing files.old) (F.faults files.old);
+      entropy = E.left entropy.old;
+      fills = calls_of (E.calls entropy.old) (E.failing entropy.old) (E.faults entropy.old);
+      found = found.old;
+    } in
         let after : Outer = record {
-            files = F.files files.new;
-            fetches = calls_of (F.calls files.new) (F.failing files.new) (F.faults files.new);
-            entropy = E.left entropy.new;
-            fills = calls_of (E.calls entropy.new) (E.failing entropy.new) (E.faults entropy.new);
-            found = found.new;
+          files = F.files files.new;
+          fetches = calls_of (F.calls files.new) (F.failing files.new) (F.faults files.new);
+          entropy = E.left entropy.new;
+          fills = calls_of (E.calls entropy.new) (E.failing entropy.new) (E.faults entropy.new);
+          found = found.new;
         } in
         let run = told_transcript words.now (S.left script.old) before found.new in
         let unprinted : Printed = record { taken = O.taken out.old; faults = O.faults out.old } in
         let printed : Printed = record { taken = O.taken out.new; faults = O.faults out.new } in
-        Ran run result unprinted printed before after
-    }
+        Ran run result unprinted printed before after }
     ensures read_to_its_end { result ≡ 0 → IfSome (S.left script.old) (λ bytes. S.left script.new ≡ Some []) }
 
     // Told or not, each status has its cause.
