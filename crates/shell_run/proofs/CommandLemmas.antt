@@ -27,7 +27,7 @@ use Rattle.shell_run.specs.Outer.{Outer, Takes, left_after}
 use Rattle.shell_run.specs.Ran.{IsFront}
 use Rattle.shell_run.specs.Takings.{Taking, fills_of}
 use Rattle.shell_run.specs.Texts.{error_line}
-use Rattle.shell_run.specs.Transcript.{World, world_of, told_world, Spot, takings_of, kit_of, Commanded, taking, refused_at_once, unless_refused, commanded, commanded_if, reply_output, Turn, turn_of, Answer, Goes, Ends, answer_of, answer_if}
+use Rattle.shell_run.specs.Transcript.{World, world_of, told_world, Spot, takings_of, kit_of, Commanded, taking, refused_at_once, unless_refused, commanded, commanded_if, reply_output, Turn, turn_of, Answer, Goes, Ends, answer_of}
 use Rattle.shell_run.proofs.KitLemmas.{told_at}
 use Rattle.shell_run.proofs.TakingLemmas.{takes_none}
 
@@ -212,9 +212,9 @@ commands_stopped n p outer (stops.Refused why) result before after printed =
 commands_stopped n p outer stops.NoMemory result before after printed =
     acts_not n outer (λ made. WhereTold (told_world p outer) made (λ entries w. Commands result n (Err stops.NoMemory) entries w (told_world p outer) before after made))
     (λ entries agrees. told_each p outer (λ w. Commands result n (Err stops.NoMemory) entries w (told_world p outer) before after []) (λ files left f e. (refl, never result printed))) where
-  never : (r : Result (Unit {0}) AllocError) → OnOk r (Shows n p.tree.rows (Err stops.NoMemory) before after) → r ≢ Ok tt
-  never (Ok ok) shown same = shown
-  never (Err stop) shown same = cc
+      never : (r : Result (Unit {0}) AllocError) → OnOk r (Shows n p.tree.rows (Err stops.NoMemory) before after) → r ≢ Ok tt
+      never (Ok ok) shown same = shown
+      never (Err stop) shown same = cc
 
 -- a command that a word gives
 pub named_turn : (n : ℕ) (result : Result (Unit {0}) AllocError) (command : Result KeyCmd Stop) (given : Result KeyCmd Refusal) (entries : List FoundEntry) (w : World) (new : Option World) (before after : List ℕ) (made : List Taking) → Gives command given

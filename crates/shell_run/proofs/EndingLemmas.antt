@@ -1,11 +1,10 @@
 -- What a run has done, once its last line is written.
-use Rattle.std.proofs.Common.{◌≡◌, ◌≢◌, ◌⊎◌, inl, inr, ⊎_elim, ℕ, zero, suc, ◌+◌, ◌*◌, ◌≤◌, ◌<◌, nat_lt, Bool, true, false, ◌||◌, List, [], ◌∷◌, ◌++◌, length, take, drop, if◌then◌else◌, Option, Some, None, IfSome, refl, ap, sym, ◌∙◌, subst, append_assoc, arith, length-append, length-drop}
+use Rattle.std.proofs.Common.{◌≡◌, ◌≢◌, inl, inr, ⊎_elim, ℕ, zero, suc, ◌+◌, ◌*◌, ◌≤◌, Bool, true, false, ◌||◌, List, [], ◌∷◌, ◌++◌, length, take, drop, if◌then◌else◌, Option, Some, None, IfSome, refl, ap, sym, ◌∙◌, subst, append_assoc, arith, length-append, length-drop}
 use Rattle.std.specs.Option.{option_and_then, option_map}
 use Rattle.std.specs.List.{AllByRecursion}
-use Rattle.std.specs.Io.KnownBytes.{Appends}
 use Rattle.std.proofs.lemmas.List.{append-nil}
 use Rattle.std.proofs.lemmas.Bool.Decides.{nat_tests}
-use Rattle.edge_io.specs.Counts.{one_more, raised, is_listed}
+use Rattle.edge_io.specs.Counts.{one_more, raised}
 use Rattle.edge_io.specs.Entropy.{is_short}
 use Rattle.edge_io.specs.Faults.{Rose}
 use Rattle.edge_io.specs.Told.{unread}
@@ -13,18 +12,16 @@ use Rattle.key_machine.specs.Plain.{no_keys}
 use Rattle.shell_run.specs.declared.ending.Ending.{Ending}
 use Rattle.shell_run.specs.declared.ending.Ending.TheVariants.{Done, Usage, BadLine, ReadFault, WriteFault, NoMemory}
 use Rattle.shell_run.specs.declared.found.FoundEntry.{FoundEntry}
-use Rattle.shell_run.specs.declared.found.FoundKind.{FoundKind}
 use Rattle.shell_run.specs.Answers.{Agrees}
 use Rattle.shell_run.specs.Endings.{status_of, closing_line, SourceFaults, SinkFaults, ClosesAs}
-use Rattle.shell_run.specs.Outer.{Outer, Calls, Called, Takes, FailWhereListedOrShort, failed_count}
+use Rattle.shell_run.specs.Outer.{Outer, Takes, FailWhereListedOrShort, failed_count}
 use Rattle.shell_run.specs.Progress.{Taken, Ends as EndsSo, WroteLast, RunsFrom}
-use Rattle.shell_run.specs.Ran.{IsAnswered, IsFront, IsCut, Came, Closes, Took, Printed, Ran, last_line}
-use Rattle.shell_run.specs.Takings.{Taking, failures, is_fetch, is_fill, outcomes, fetches_of, fills_of}
-use Rattle.shell_run.specs.Texts.{bad_line}
+use Rattle.shell_run.specs.Ran.{IsAnswered, IsFront, Came, Closes, Took, Ran, last_line}
+use Rattle.shell_run.specs.Takings.{Taking, failures, is_fetch, is_fill, fetches_of, fills_of}
 use Rattle.shell_run.specs.Transcript.{World, told_world, Run, Turn, replies_of, made_in, output_of, transcript, told_transcript}
 use Rattle.shell_run.proofs.CommandLemmas.{front_nil}
 use Rattle.shell_run.proofs.RunLemmas.{flat_map_both, unanswered}
-use Rattle.shell_run.proofs.TakingLemmas.{agrees_failures, failures_both, outcomes_both}
+use Rattle.shell_run.proofs.TakingLemmas.{agrees_failures, outcomes_both}
 use Rattle.shell_run.proofs.WritingLemmas.{Took-after, Took-from_Appends}
 
 -- where a run begins at the reader's first byte
@@ -116,9 +113,9 @@ written_whole (BadLine number at) closed t0 t1 t2 replies last closes_as taken m
 closes_nil : (line last : List ℕ) (before now : ℕ) → line ≡ [] → Closes line last before now → last ≡ []
 closes_nil line last before now empty closed =
     ⊎_elim (λ whole. whole.0 ∙ empty) (λ cut. absurd (cut.0.2 (second last cut.0.0 (sym cut.0.1 ∙ empty)))) closed where
-  second : (xs ys : List ℕ) → xs ++ ys ≡ [] → ys ≡ []
-  second [] ys e = e
-  second (x ∷ xs) ys e = absurd (cc)
+      second : (xs ys : List ℕ) → xs ++ ys ≡ [] → ys ≡ []
+      second [] ys e = e
+      second (x ∷ xs) ys e = absurd (cc)
 
 closes_from : (line last : List ℕ) (first before now : ℕ) → before ≡ first → Closes line last before now → Closes line last first now
 closes_from line last first before now same closed = subst (λ n. Closes line last n now) same closed
@@ -186,9 +183,10 @@ made_front WriteFault run replies made came =
     front_of_run run came.turns came.later made came.whole ([], sym ((came.cut refl).3) ∙ sym (append-nil made))
 made_front NoMemory run replies made came =
     let there = came.stopped refl in
-    front_of_run run came.turns came.later made came.whole
-    (there.2.0,
-      made_both came.turns (take 1 came.later) ∙ ap (λ xs. made_in came.turns ++ xs) there.2.1 ∙ sym (append_assoc (made_in came.turns) there.0 there.2.0) ∙ ap (λ xs. xs ++ there.2.0) (sym there.1))
+    front_of_run run came.turns came.later made came.whole (
+      there.2.0,
+      made_both came.turns (take 1 came.later) ∙ ap (λ xs. made_in came.turns ++ xs) there.2.1 ∙ sym (append_assoc (made_in came.turns) there.0 there.2.0) ∙ ap (λ xs. xs ++ there.2.0) (sym there.1),
+    )
 made_front Done run replies made came =
     front_of_run run came.turns came.later made came.whole (front_of_turns came.turns came.later made (came.taken (λ e. absurd (omega (arith, e))) (λ e. absurd (omega (arith, e)))))
 made_front Usage run replies made came =
@@ -206,10 +204,11 @@ enough_bytes number left (first ∷ xs) enough fails =
     let none : first ≡ false = fails.0 ∙ long_enough left (omega (arith, enough)) in
     let rest : FailWhereListedOrShort [] (one_more number) (drop 32 left) xs = subst (λ (b : Bool). FailWhereListedOrShort [] (one_more number) (if b then left else drop 32 left) xs) none fails.1 in
     (none, enough_bytes (one_more number) (drop 32 left) xs (dropped left (length xs) (omega (arith, enough))) rest) where
-  long_enough : (left : List ℕ) → 32 ≤ length left → is_short left ≡ false
-  long_enough left long = grind (arith, nat_tests)
-  dropped : (left : List ℕ) (n : ℕ) → 32 * (n + 1) ≤ length left → 32 * n ≤ length (drop 32 left)
-  dropped left n long = omega (arith, length-drop 32 left, long)
+      long_enough : (left : List ℕ) → 32 ≤ length left → is_short left ≡ false
+      long_enough left long = grind (arith, nat_tests)
+
+      dropped : (left : List ℕ) (n : ℕ) → 32 * (n + 1) ≤ length left → 32 * n ≤ length (drop 32 left)
+      dropped left n long = omega (arith, length-drop 32 left, long)
 
 no_fills : (made : List Taking) → AllByRecursion (λ fails. fails ≡ false) (fills_of made) → AllByRecursion (λ entry. is_fill entry.what ≡ false) (failures made)
 no_fills [] none = tt
@@ -342,3 +341,12 @@ sink_untouched e closed first before now closes_as none_bad faults kept =
     let closed_done : closed ≡ Done = subst (λ (x : Ending). ClosesAs x closed) done closes_as in
     let before_same : before ≡ first = subst (λ (x : Ending). SinkFaults (Some x) first before) done faults in
     kept (ap closing_line closed_done) ∙ before_same
+
+pub completes : (e closed : Ending) (s0 s1 o0 o1 o2 : ℕ) → ClosesAs e closed → SourceFaults (Some e) s0 s1 → SinkFaults (Some e) o0 o1 → o1 ≤ o2 → (Rose s0 s1 → ⊥) → (Rose o0 o2 → ⊥)
+    → IsAnswered (status_of closed) ⊎ (status_of closed ≡ 12)
+completes Done closed s0 s1 o0 o1 o2 closes_as source sink later read written = inl (inl (ap status_of closes_as))
+completes Usage closed s0 s1 o0 o1 o2 closes_as source sink later read written = inl (inr (inl (ap status_of closes_as)))
+completes (BadLine number at) closed s0 s1 o0 o1 o2 closes_as source sink later read written = ⊎_elim (λ bad. inl (inr (inr (ap status_of bad)))) (λ none. inr (ap status_of none)) closes_as
+completes ReadFault closed s0 s1 o0 o1 o2 closes_as source sink later read written = absurd (read source.1)
+completes WriteFault closed s0 s1 o0 o1 o2 closes_as source sink later read written = absurd (written (omega (arith, sink.1, later)))
+completes NoMemory closed s0 s1 o0 o1 o2 closes_as source sink later read written = inr (ap status_of closes_as)

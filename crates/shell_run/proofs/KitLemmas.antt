@@ -1,5 +1,5 @@
 -- What is taken for a command: the old key, the new key and a seed.
-use Rattle.std.proofs.Common.{◌≡◌, ◌⊎◌, inl, inr, ◌<◌, ℕ, ◌+◌, ◌≤◌, Bool, true, false, ◌||◌, List, [], ◌∷◌, ◌++◌, take, drop, if◌then◌else◌, Option, Some, None, Result, Ok, Err, IsErr, IfOk, IfSome, refl, ap, sym, ◌∙◌, subst, append_assoc, arith}
+use Rattle.std.proofs.Common.{◌≡◌, inr, ◌<◌, ℕ, ◌+◌, ◌≤◌, Bool, true, false, ◌||◌, List, [], ◌∷◌, ◌++◌, drop, if◌then◌else◌, Option, Some, None, Result, Ok, Err, IsErr, IfOk, IfSome, refl, ap, sym, ◌∙◌, subst, append_assoc, arith}
 use Rattle.std.specs.declared.alloc.AllocError.{AllocError}
 use Rattle.std.specs.List.{AllByRecursion}
 use Rattle.std.proofs.lemmas.List.{append-nil}
@@ -20,8 +20,8 @@ use Rattle.shell_run.specs.declared.found.FoundKind.TheVariants.{OldKey, NewKey,
 use Rattle.shell_run.specs.Answers.{Acts, Agrees, Fetches, Fills, FillsFrom, GivesKit, IsCalled, TakesKit, fetch_fails, is_fault, is_seed_fault, spot_of, taking_with}
 use Rattle.shell_run.specs.Outer.{Calls, Outer, Takes, left_after}
 use Rattle.shell_run.specs.Ran.{IsFront}
-use Rattle.shell_run.specs.Takings.{rank, IsBefore, AreInOrder, Taking, has_entry, is_fetch, is_fill, fills_of}
-use Rattle.shell_run.specs.Transcript.{Spot, taking_at, seed_at, fetch_at, material_of, material_at, fill_at, seed_from, takings_of, kit_of}
+use Rattle.shell_run.specs.Takings.{rank, AreInOrder, Taking, has_entry, is_fetch, is_fill, fills_of}
+use Rattle.shell_run.specs.Transcript.{taking_at, seed_at, fetch_at, material_of, material_at, fill_at, seed_from}
 use Rattle.shell_run.proofs.TakingLemmas.{entries_made, all_both, all_first, all_second, all_weaker, order_both, takes_both, takes_fetch, takes_fill, takes_none}
 
 -- ---- one taking
@@ -63,6 +63,7 @@ fill_acts entry fill seed old new called files from fetches found = record {
   left_told (Some left) seeds.NotAsked from = absurd from
   left_told (Some left) (seeds.Got bytes) from = from.2
   left_told (Some left) seeds.Fault from = from
+
   seed_told : (told : Option (List ℕ)) (seed : SeedGot) → IfSome told (λ left. FillsFrom left new.entropy seed)
       → IfSome told (λ left. (seed ≡ seed_from (taking_with entry (is_seed_fault seed)) left true) × (true ≡ true → is_seed_fault seed || is_short left ≡ is_seed_fault seed))
   seed_told None seed from = tt
@@ -232,16 +233,15 @@ kit_taken n wants a b c d old_key new_key seed p q r =
           let seed_is : seed ≡ seed_from (seed_at (spot_of n entries) left) left wants.seed = seed_told.0 ∙ filled.1 in
           let made_old : p.made ≡ fetch_at (taking_at (spot_of n entries) OldKey) wants.old_place = p.said.0 ∙ fetch_agrees n entries OldKey (is_fault old_key) wants.old_place agrees_old in
           let made_new : q.made ≡ fetch_at (taking_at (spot_of n entries) NewKey) wants.new_place = q.said.0 ∙ fetch_agrees n entries NewKey (is_fault new_key) wants.new_place agrees_new in
-          let made_seed : r.made ≡ fill_at (seed_at (spot_of n entries) left) wants.seed = r.said.0 ∙ filled.0 in
-          (
+          let made_seed : r.made ≡ fill_at (seed_at (spot_of n entries) left) wants.seed = r.said.0 ∙ filled.0 in (
             same_kit old_key new_key seed _ _ _ old_told new_told seed_is,
             ap (λ xs. (xs ++ q.made) ++ r.made) made_old ∙ ap (λ xs. (fetch_at (taking_at (spot_of n entries) OldKey) wants.old_place ++ xs) ++ r.made) made_new
-            ∙ ap (λ xs. (fetch_at (taking_at (spot_of n entries) OldKey) wants.old_place ++ fetch_at (taking_at (spot_of n entries) NewKey) wants.new_place) ++ xs) made_seed,
+                ∙ ap (λ xs. (fetch_at (taking_at (spot_of n entries) OldKey) wants.old_place ++ fetch_at (taking_at (spot_of n entries) NewKey) wants.new_place) ++ xs) made_seed,
           ));
     } where
-  same_kit : (old_key new_key : Fetched) (seed : SeedGot) (x y : Fetched) (z : SeedGot) → old_key ≡ x → new_key ≡ y → seed ≡ z
-      → (let kit : LineKit = record { old_key = old_key; new_key = new_key; seed = seed } in kit) ≡ record { old_key = x; new_key = y; seed = z }
-  same_kit old_key new_key seed x y z e f g = cc
+      same_kit : (old_key new_key : Fetched) (seed : SeedGot) (x y : Fetched) (z : SeedGot) → old_key ≡ x → new_key ≡ y → seed ≡ z
+          → (let kit : LineKit = record { old_key = old_key; new_key = new_key; seed = seed } in kit) ≡ record { old_key = x; new_key = y; seed = z }
+      same_kit old_key new_key seed x y z e f g = cc
 
 -- memory was wanting for the first fetch
 pub kit_stopped_first : (n : ℕ) (wants : Wanted) (a b : Outer) (stop : AllocError) → Acts n a b (Fetches (Err stop) (entry_of n OldKey) wants.old_place a.files)
@@ -274,10 +274,11 @@ kit_stopped_second n wants a b c old_key stop p q =
           let made_old : p.made ≡ fetch_at (taking_at (spot_of n entries) OldKey) wants.old_place = p.said.0 ∙ fetch_agrees n entries OldKey (is_fault old_key) wants.old_place agrees_old in
           let front : IsFront q.made (fetch_at (taking_at (spot_of n entries) NewKey) wants.new_place) =
           front_agrees n entries NewKey wants.new_place q.made (all_second (λ taking. has_entry taking.entry entries ≡ taking.fails) p.made q.made agrees) q.said in
-          let last : List Taking = fill_at (seed_at (spot_of n entries) left) wants.seed in
-          (front.0 ++ last,
+          let last : List Taking = fill_at (seed_at (spot_of n entries) left) wants.seed in (
+            front.0 ++ last,
             ap (λ xs. (xs ++ fetch_at (taking_at (spot_of n entries) NewKey) wants.new_place) ++ last) (sym made_old) ∙ ap (λ xs. (p.made ++ xs) ++ last) front.1
-            ∙ ap (λ xs. xs ++ last) (sym (append_assoc p.made q.made front.0)) ∙ append_assoc (p.made ++ q.made) front.0 last));
+                ∙ ap (λ xs. xs ++ last) (sym (append_assoc p.made q.made front.0)) ∙ append_assoc (p.made ++ q.made) front.0 last,
+          ));
     }
 
 -- for the seed
@@ -306,8 +307,9 @@ kit_stopped_third n wants a b c d old_key new_key stop p q r =
           subst (Agrees entries) q.said.0 (all_second (λ taking. has_entry taking.entry entries ≡ taking.fails) p.made q.made agrees_keys) in
           let made_old : p.made ≡ fetch_at (taking_at (spot_of n entries) OldKey) wants.old_place = p.said.0 ∙ fetch_agrees n entries OldKey (is_fault old_key) wants.old_place agrees_old in
           let made_new : q.made ≡ fetch_at (taking_at (spot_of n entries) NewKey) wants.new_place = q.said.0 ∙ fetch_agrees n entries NewKey (is_fault new_key) wants.new_place agrees_new in
-          let last : List Taking = fill_at (seed_at (spot_of n entries) left) wants.seed in
-          (last,
+          let last : List Taking = fill_at (seed_at (spot_of n entries) left) wants.seed in (
+            last,
             ap (λ xs. (xs ++ fetch_at (taking_at (spot_of n entries) NewKey) wants.new_place) ++ last) (sym made_old) ∙ ap (λ xs. (p.made ++ xs) ++ last) (sym made_new)
-            ∙ ap (λ xs. xs ++ last) (sym (append-nil (p.made ++ q.made)) ∙ ap (λ xs. (p.made ++ q.made) ++ xs) (sym r.said))));
+                ∙ ap (λ xs. xs ++ last) (sym (append-nil (p.made ++ q.made)) ∙ ap (λ xs. (p.made ++ q.made) ++ xs) (sym r.said)),
+          ));
     }

@@ -1,11 +1,11 @@
 -- One line of a run, and many.
-use Rattle.std.proofs.Common.{◌≡◌, ◌≢◌, ℕ, zero, suc, ◌+◌, ◌<◌, ◌≤◌, nat_lt, true, false, List, [], ◌∷◌, ◌++◌, length, take, drop, Option, Some, None, Result, Ok, Err, IfSome, IsSomeAnd, OnOk, OnErr, refl, ap, sym, ◌∙◌, subst, append_assoc, arith, inl, inr, ⊎_elim}
+use Rattle.std.proofs.Common.{◌≡◌, ◌≢◌, ℕ, ◌+◌, ◌<◌, ◌≤◌, nat_lt, true, false, List, [], ◌∷◌, ◌++◌, length, take, drop, Option, Some, None, Result, Ok, Err, IfSome, IsSomeAnd, OnOk, OnErr, refl, ap, sym, ◌∙◌, subst, append_assoc, arith, inl, inr, ⊎_elim}
 use Rattle.std.specs.Io.KnownBytes.{Appends}
-use Rattle.std.specs.List.{AllByRecursion, flat_map}
+use Rattle.std.specs.List.{flat_map}
 use Rattle.std.proofs.lemmas.Bool.Decides.{nat_tests}
 use Rattle.std.proofs.lemmas.List.{append-nil}
 use Rattle.key_machine.specs.Plain.{Plain, no_keys}
-use Rattle.edge_io.specs.Faults.{HasCause, Rose}
+use Rattle.edge_io.specs.Faults.{HasCause}
 use Rattle.edge_io.specs.Told.{unread}
 use Rattle.edge_io.specs.Lines.{lines, first_line, next_line, rest_of}
 use Rattle.edge_io.proofs.LinesLemmas.{lines_next}
@@ -16,11 +16,11 @@ use Rattle.shell_lines.specs.Grammar.{line_of}
 use Rattle.shell_run.specs.declared.ending.Ending.{Ending}
 use Rattle.shell_run.specs.declared.ending.Ending.TheVariants.{Done, Usage, BadLine, ReadFault, WriteFault, NoMemory}
 use Rattle.shell_run.specs.declared.found.FoundEntry.{FoundEntry}
-use Rattle.shell_run.specs.Answers.{Acts, Agrees, AnswersTo, HasAnswer, HasTurn, WhereTold, answer_takings}
-use Rattle.shell_run.specs.Endings.{EndsInLine, SourceFaults, status_of, closing_line}
-use Rattle.shell_run.specs.Outer.{Outer, Takes}
+use Rattle.shell_run.specs.Answers.{Acts, Agrees, AnswersTo, HasAnswer, WhereTold, answer_takings}
+use Rattle.shell_run.specs.Endings.{EndsInLine, SourceFaults, status_of}
+use Rattle.shell_run.specs.Outer.{Outer}
 use Rattle.shell_run.specs.Progress.{Goes as GoesOn, Taken, Ends as EndsSo, TookCut, WroteLast, TakesLine, TakesNone, HasReplied, HasCut, Replied, LineRan, RunsFrom, StaysTold}
-use Rattle.shell_run.specs.Ran.{IsAnswered, IsFront, IsCut, Came, Closes, Took}
+use Rattle.shell_run.specs.Ran.{IsAnswered, IsFront, IsCut, Came}
 use Rattle.shell_run.specs.Takings.{Taking, has_entry, entries_of}
 use Rattle.shell_run.specs.Texts.{bad_line}
 use Rattle.shell_run.specs.Transcript.{World, told_world, Run, Turn, Answer, Goes, Ends, preceded, replies_of, made_in, goes_on, checked, answer_if, run_within, run_from, transcript}
@@ -171,16 +171,18 @@ came_preceded front b status replies made c = record {
   replied = λ other. ap (λ zs. replies_of front ++ zs) (c.replied other) ∙ sym (replies_both front c.turns);
   taken = λ other memory. ap (λ zs. made_in front ++ zs) (c.taken other memory) ∙ sym (made_both front c.turns);
   cut = λ five.
-      let there = c.cut five in
-      (there.0,
+      let there = c.cut five in (
+        there.0,
         ap (λ zs. replies_of front ++ zs) there.1 ∙ sym (append_assoc (replies_of front) (replies_of c.turns) there.0) ∙ ap (λ zs. zs ++ there.0) (sym (replies_both front c.turns)),
         there.2,
-        ap (λ zs. made_in front ++ zs) there.3 ∙ sym (made_both front (c.turns ++ take 1 c.later)) ∙ ap made_in (sym (append_assoc front c.turns (take 1 c.later))));
+        ap (λ zs. made_in front ++ zs) there.3 ∙ sym (made_both front (c.turns ++ take 1 c.later)) ∙ ap made_in (sym (append_assoc front c.turns (take 1 c.later))),
+      );
   stopped = λ twelve.
-      let there = c.stopped twelve in
-      (there.0,
+      let there = c.stopped twelve in (
+        there.0,
         ap (λ zs. made_in front ++ zs) there.1 ∙ sym (append_assoc (made_in front) (made_in c.turns) there.0) ∙ ap (λ zs. zs ++ there.0) (sym (made_both front c.turns)),
-        there.2);
+        there.2,
+      );
 }
 
 taken_more : (e : Ending) (t0 t1 t2 : Option (List ℕ)) (xs ys : List ℕ) → Appends t0 t1 xs → Taken e t1 t2 ys → Taken e t0 t2 (xs ++ ys)
@@ -387,6 +389,7 @@ line_not_taken told left e n outer world t few none = record { made = []; takes 
   each : (bytes : List ℕ) (found : List FoundEntry) (world : Option World) → TakesNone e n bytes left → IfSome world (λ w. EndsSo e (run_from n (lines bytes) found w) [] t t)
   each bytes found None none = tt
   each bytes found (Some w) none = no_line_ends e n bytes left found w t few none
+
   said : (told : Option (List ℕ)) → IfSome told (λ bytes. TakesNone e n bytes left) → IfSome told (λ bytes. WhereTold world [] (λ found w. LineRan (Some e) n bytes left found w world t t []))
   said None none = tt
   said (Some bytes) none = λ found agrees. each bytes found world none

@@ -1,16 +1,15 @@
 -- Takings, one after another.
-use Rattle.std.proofs.Common.{◌≡◌, ◌⊎◌, inl, inr, ◌<◌, ℕ, ◌+◌, ◌≤◌, min, ◌-◌, ◌^◌, Bool, true, false, ◌&&◌, ◌||◌, ◌==◌, List, [], ◌∷◌, ◌++◌, length, take, drop, map, if◌then◌else◌, Option, Some, None, IfSome, refl, ap, sym, ◌∙◌, subst, append_assoc, ⊎_elim, arith}
+use Rattle.std.proofs.Common.{◌≡◌, ◌⊎◌, inl, inr, ◌<◌, ℕ, ◌+◌, Bool, true, false, ◌&&◌, ◌||◌, ◌==◌, List, [], ◌∷◌, ◌++◌, drop, map, if◌then◌else◌, Option, Some, None, IfSome, refl, ap, sym, ◌∙◌, subst, append_assoc, ⊎_elim, arith}
 use Rattle.std.specs.Option.{option_map}
 use Rattle.std.specs.List.{AllByRecursion}
 use Rattle.std.proofs.lemmas.List.{append-nil}
 use Rattle.std.proofs.lemmas.Bool.Decides.{nat_tests}
-use Rattle.edge_io.specs.Counts.{raised, one_more, is_listed, next_listed}
+use Rattle.edge_io.specs.Counts.{one_more, is_listed, next_listed}
 use Rattle.edge_io.specs.Entropy.{is_short, fill_fails}
-use Rattle.edge_io.specs.Faults.{Rose}
 use Rattle.shell_run.specs.declared.found.FoundEntry.{FoundEntry}
 use Rattle.shell_run.specs.declared.found.FoundKind.{FoundKind}
 use Rattle.shell_run.specs.declared.found.FoundKind.TheVariants.{OldKey, NewKey, Seed, Streams, Shelf}
-use Rattle.shell_run.specs.Answers.{IsCalled, CountsFault, Agrees, taking_with}
+use Rattle.shell_run.specs.Answers.{IsCalled, Agrees, taking_with}
 use Rattle.shell_run.specs.Outer.{Calls, Outer, number_after, failed_count, Called, FailWhereListed, left_after, FailWhereListedOrShort, Takes}
 use Rattle.shell_run.specs.Takings.{rank, IsBefore, AreInOrder, entries_of, has_entry, Taking, failures, is_fetch, is_fill, outcomes, fetches_of, fills_of}
 
@@ -219,8 +218,8 @@ pub order_both : (P Q : Taking → Type 0) (xs ys : List Taking) → ((x y : Tak
 order_both P Q [] ys apart p q xs_order ys_order = ys_order
 order_both P Q (taking ∷ xs) ys apart p q xs_order ys_order = (
   subst (AllByRecursion (IsBefore taking.entry)) (sym (entries_both xs ys))
-  (all_both (IsBefore taking.entry) (entries_made xs) (entries_made ys) xs_order.0
-  (all_entries (IsBefore taking.entry) ys (all_weaker Q (λ later. IsBefore taking.entry later.entry) ys (λ later at_line. apart taking later p.0 at_line) q))),
+      (all_both (IsBefore taking.entry) (entries_made xs) (entries_made ys) xs_order.0
+      (all_entries (IsBefore taking.entry) ys (all_weaker Q (λ later. IsBefore taking.entry later.entry) ys (λ later at_line. apart taking later p.0 at_line) q))),
   order_both P Q xs ys apart p.1 q xs_order.1 ys_order,
 )
 
@@ -270,9 +269,9 @@ takes_fetch_of line part what fetch no_fill fails old new called files entropy f
       fetch_fails = subst (λ (bs : List Bool). ListedAt old.fetches.made old.fetches.failing bs) (sym one) (listed_once old.fetches.made old.fetches.failing fails called.as_known);
       fill_fails = subst (λ (bs : List Bool). ShortAt old.fills.made old.fills.failing old.entropy bs) (sym none) (none_short_at old.fills.made old.fills.failing old.entropy);
     } where
-  by_case : (b : Bool) → (let entry : FoundEntry = record { line = line; part = part; what = what } in (if b then entry ∷ [] else [])) ≡ failures (taking_with record { line = line; part = part; what = what } b ∷ [])
-  by_case true = refl
-  by_case false = refl
+      by_case : (b : Bool) → (let entry : FoundEntry = record { line = line; part = part; what = what } in (if b then entry ∷ [] else [])) ≡ failures (taking_with record { line = line; part = part; what = what } b ∷ [])
+      by_case true = refl
+      by_case false = refl
 
 no_fill_of : (what : FoundKind) → is_fetch what ≡ true → is_fill what ≡ false
 no_fill_of OldKey fetch = refl
@@ -305,9 +304,9 @@ takes_fill_of line part what no_fetch fill fails old new called files entropy fe
       fetch_fails = subst (λ (bs : List Bool). ListedAt old.fetches.made old.fetches.failing bs) (sym none) (none_listed_at old.fetches.made old.fetches.failing);
       fill_fails = subst (λ (bs : List Bool). ShortAt old.fills.made old.fills.failing old.entropy bs) (sym one) (short_once old.fills.made old.fills.failing old.entropy fails called.as_known);
     } where
-  by_case : (b : Bool) → (let entry : FoundEntry = record { line = line; part = part; what = what } in (if b then entry ∷ [] else [])) ≡ failures (taking_with record { line = line; part = part; what = what } b ∷ [])
-  by_case true = refl
-  by_case false = refl
+      by_case : (b : Bool) → (let entry : FoundEntry = record { line = line; part = part; what = what } in (if b then entry ∷ [] else [])) ≡ failures (taking_with record { line = line; part = part; what = what } b ∷ [])
+      by_case true = refl
+      by_case false = refl
 
 no_fetch_of : (what : FoundKind) → is_fill what ≡ true → is_fetch what ≡ false
 no_fetch_of OldKey fill = absurd (cc)
@@ -346,11 +345,11 @@ and_false true true true p = absurd (⊎_elim (λ e. cc) (λ q. ⊎_elim (λ e. 
 is_same-before : (entry other : FoundEntry) → IsBefore entry other → (is_same entry other ≡ false) × (is_same other entry ≡ false)
 is_same-before entry other before = (
   and_false _ _ _ (⊎_elim (λ line. inl (other_number other.line entry.line (λ e. omega (arith, line, e))))
-  (λ later. ⊎_elim (λ part. inr (inl (other_number other.part entry.part (λ e. omega (arith, part, e)))))
-  (λ kind. inr (inr (other_number (rank other.what) (rank entry.what) (λ e. omega (arith, kind.1, e))))) later.1) before),
+      (λ later. ⊎_elim (λ part. inr (inl (other_number other.part entry.part (λ e. omega (arith, part, e)))))
+      (λ kind. inr (inr (other_number (rank other.what) (rank entry.what) (λ e. omega (arith, kind.1, e))))) later.1) before),
   and_false _ _ _ (⊎_elim (λ line. inl (other_number entry.line other.line (λ e. omega (arith, line, e))))
-  (λ later. ⊎_elim (λ part. inr (inl (other_number entry.part other.part (λ e. omega (arith, part, e)))))
-  (λ kind. inr (inr (other_number (rank entry.what) (rank other.what) (λ e. omega (arith, kind.1, e))))) later.1) before),
+      (λ later. ⊎_elim (λ part. inr (inl (other_number entry.part other.part (λ e. omega (arith, part, e)))))
+      (λ kind. inr (inr (other_number (rank entry.what) (rank other.what) (λ e. omega (arith, kind.1, e))))) later.1) before),
 )
 
 -- what stands before all takings has no entry among their failures

@@ -70,4 +70,3 @@ writing_all bytes rest t0 t1 w none =
     let all : bytes ≡ w.done = w.split ∙ ap (λ ys. w.done ++ ys) none ∙ sym (append_nil w.done) in
     let P : List ℕ → Type 0 = λ xs. Appends t0 t1 xs in
     subst P (sym all) w.taken
-

@@ -1,5 +1,5 @@
 -- How far a run has come.
-use Rattle.std.specs.Prelude.{Result, Ok, Err, ◌≡◌, ◌⊎◌, ℕ, ◌+◌, ◌<◌, ◌≤◌, List, [], ◌∷◌, ◌++◌, length, IfSome, IsSomeAnd}
+use Rattle.std.specs.Prelude.{Result, Err, ◌≡◌, ℕ, ◌+◌, ◌<◌, List, [], ◌∷◌, length, IfSome, IsSomeAnd}
 use Rattle.std.specs.declared.option.Option.{Option}
 use Rattle.std.specs.declared.option.Option.TheVariants.{Some, None}
 use Rattle.std.specs.Io.KnownBytes.{Appends}
@@ -8,7 +8,7 @@ use Rattle.shell_lines.specs.declared.line.Line.{Line}
 use Rattle.shell_run.specs.declared.ending.Ending.{Ending}
 use Rattle.shell_run.specs.declared.ending.Ending.TheVariants.{Done, Usage, BadLine, ReadFault, WriteFault, NoMemory}
 use Rattle.shell_run.specs.declared.found.FoundEntry.{FoundEntry}
-use Rattle.shell_run.specs.Answers.{Agrees, HasTurn, HasAnswer, answer_takings}
+use Rattle.shell_run.specs.Answers.{Agrees, answer_takings}
 use Rattle.shell_run.specs.Endings.{status_of, closing_line}
 use Rattle.shell_run.specs.Outer.{Outer, Takes}
 use Rattle.shell_run.specs.Ran.{IsAnswered, IsFront, IsCut, Came, Closes, Took}

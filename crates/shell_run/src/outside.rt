@@ -25,7 +25,12 @@ pub(crate) trait Outside {
     ghost holds: { Self → List ℕ };
 
     /// Fetches the key material at a place, as this taking. Until prompts are built, one gives no bytes.
-    fn fetch(&mut self, alloc: Global, place: &Location, entry: FoundEntry) -> Result<Fetched, NoMemory>
+    fn fetch(
+        &mut self,
+        alloc: Global,
+        place: &Location,
+        entry: FoundEntry,
+    ) -> Result<Fetched, NoMemory>
         requires { is_fetch entry.what ≡ true }
         ensures takes { Acts entry.line (told self.old) (told self.new) (Fetches result entry (Some place.now) (told self.old).files) }
         ensures asked { IfOk result (λ fetched. WasAsked fetched) }
@@ -60,7 +65,12 @@ impl<F: KeyFiles, E: Entropy> Outside for Lent<'_, F, E> {
 
     ghost holds = { λ lent. lent.files.ghost_name ∷ lent.entropy.ghost_name ∷ lent.found.ghost_name ∷ [] };
 
-    fn fetch(&mut self, alloc: Global, place: &Location, entry: FoundEntry) -> Result<Fetched, NoMemory> {
+    fn fetch(
+        &mut self,
+        alloc: Global,
+        place: &Location,
+        entry: FoundEntry,
+    ) -> Result<Fetched, NoMemory> {
         match place {
             Location::Prompt => Ok(Fetched::Got(Material::new(Vec::new(alloc)))),
             Location::File(path) => {
@@ -84,11 +94,14 @@ impl<F: KeyFiles, E: Entropy> Outside for Lent<'_, F, E> {
 }
 
 /// Fetches a key file.
-fn fetch_file<F: KeyFiles>(alloc: Global, files: &mut F, path: &PathText) -> Result<Fetched, NoMemory>
+fn fetch_file<F: KeyFiles>(
+    alloc: Global,
+    files: &mut F,
+    path: &PathText,
+) -> Result<Fetched, NoMemory>
     ensures material { IfOk result (λ fetched. IfSome (F.files files.old) (λ told.
         fetched ≡ (if is_fault fetched then Fetched.Fault else material_of (fetched_at path.now told)))) }
-    ensures call {
-        let before : Calls = calls_of (F.calls files.old) (F.failing files.old) (F.faults files.old) in
+    ensures call { let before : Calls = calls_of (F.calls files.old) (F.failing files.old) (F.faults files.old) in
         let after : Calls = calls_of (F.calls files.new) (F.failing files.new) (F.faults files.new) in
         IsCalled (next_listed (F.calls files.old) (F.failing files.old)) (fetch_fails result) before after }
     ensures files { F.files files.new ≡ F.files files.old }
@@ -105,8 +118,7 @@ fn fetch_file<F: KeyFiles>(alloc: Global, files: &mut F, path: &PathText) -> Res
 /// Takes 32 random bytes.
 fn fill_seed<E: Entropy>(entropy: &mut E) -> SeedGot
     ensures seed { IfSome (E.left entropy.old) (λ left. FillsFrom left (E.left entropy.new) result) }
-    ensures call {
-        let before : Calls = calls_of (E.calls entropy.old) (E.failing entropy.old) (E.faults entropy.old) in
+    ensures call { let before : Calls = calls_of (E.calls entropy.old) (E.failing entropy.old) (E.faults entropy.old) in
         let after : Calls = calls_of (E.calls entropy.new) (E.failing entropy.new) (E.faults entropy.new) in
         IsCalled (fill_fails (E.left entropy.old) (next_listed (E.calls entropy.old) (E.failing entropy.old))) (is_seed_fault result) before after }
     ensures asked { SeedWasAsked result }

@@ -63,28 +63,28 @@ pub fn run_alone<S: Source, O: Sink, F: KeyFiles, E: Entropy>(
 ) -> u8
     requires { found.old ≡ [] }
 
-    // What is told of the outside before and after, and how far the run came of the transcript in which the listed takings fail.
-    ensures ran {
-        let before : Outer = record {
-            files = F.files files.old;
-            fetches = calls_of (F.calls files.old) (F.failing files.old) (F.faults files.old);
-            entropy = E.left entropy.old;
-            fills = calls_of (E.calls entropy.old) (E.failing entropy.old) (E.faults entropy.old);
-            found = found.old;
-        } in
+    // What is told of the outside before and after the run, and how far the run came of the
+    // transcript in which the listed takings fail.
+    ensures ran { let before : Outer = record {
+      files = F.files files.old;
+      fetches = calls_of (F.calls files.old) (F.failing files.old) (F.faults files.old);
+      entropy = E.left entropy.old;
+      fills = calls_of (E.calls entropy.old) (E.failing entropy.old) (E.faults entropy.old);
+      found = found.old;
+    } in
         let after : Outer = record {
-            files = F.files files.new;
-            fetches = calls_of (F.calls files.new) (F.failing files.new) (F.faults files.new);
-            entropy = E.left entropy.new;
-            fills = calls_of (E.calls entropy.new) (E.failing entropy.new) (E.faults entropy.new);
-            found = found.new;
+          files = F.files files.new;
+          fetches = calls_of (F.calls files.new) (F.failing files.new) (F.faults files.new);
+          entropy = E.left entropy.new;
+          fills = calls_of (E.calls entropy.new) (E.failing entropy.new) (E.faults entropy.new);
+          found = found.new;
         } in
         let run = told_transcript words.now (S.left script.old) before found.new in
         let unprinted : Printed = record { taken = O.taken out.old; faults = O.faults out.old } in
         let printed : Printed = record { taken = O.taken out.new; faults = O.faults out.new } in
-        Ran run result unprinted printed before after
-    }
-    ensures read_to_its_end { result ≡ 0 → IfSome (S.left script.old) (λ bytes. S.left script.new ≡ Some []) }
+        Ran run result unprinted printed before after }
+    ensures read_to_its_end { result ≡ 0 →
+        IfSome (S.left script.old) (λ bytes. S.left script.new ≡ Some []) }
 
     // Told or not, each status has its cause.
     ensures statuses { IsAnswered result ⊎ (result ≡ 4) ⊎ (result ≡ 5) ⊎ (result ≡ 12) }
@@ -92,6 +92,8 @@ pub fn run_alone<S: Source, O: Sink, F: KeyFiles, E: Entropy>(
     ensures write_fault { result ≡ 5 → Rose (O.faults out.old) (O.faults out.new) }
     ensures no_read_fault { result ≢ 4 → S.faults script.new ≡ S.faults script.old }
     ensures no_write_fault { result ≡ 0 → O.faults out.new ≡ O.faults out.old }
+    ensures complete { ¬ Rose (S.faults script.old) (S.faults script.new) →
+        ¬ Rose (O.faults out.old) (O.faults out.new) → IsAnswered result ⊎ (result ≡ 12) }
     ensures read_faults { S.faults script.old ≤ S.faults script.new }
     ensures write_faults { O.faults out.old ≤ O.faults out.new }
 
@@ -99,9 +101,10 @@ pub fn run_alone<S: Source, O: Sink, F: KeyFiles, E: Entropy>(
     ensures usage { words.now ≢ [] → result ≡ 2 }
     ensures usage_only { result ≡ 2 → words.now ≢ [] }
     ensures usage_line { words.now ≢ [] →
-        WroteLast usage_line (O.taken out.old) (O.taken out.new) (O.faults out.old) (O.faults out.new) }
-    ensures usage_takes_nothing { words.now ≢ [] →
-        (script.new ≡ script.old) × (files.new ≡ files.old) × (entropy.new ≡ entropy.old) × (found.new ≡ []) }
+        WroteLast usage_line (O.taken out.old) (O.taken out.new)
+        (O.faults out.old) (O.faults out.new) }
+    ensures usage_takes_nothing { words.now ≢ [] → (script.new ≡ script.old)
+        × (files.new ≡ files.old) × (entropy.new ≡ entropy.old) × (found.new ≡ []) }
 
     // Where no count rose, nothing is listed.
     ensures none_failed { ¬ Rose (F.faults files.old) (F.faults files.new) →

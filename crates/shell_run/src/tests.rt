@@ -211,7 +211,10 @@ fn a_run_goes_on_behind_failed_takings_and_lists_them(rt: HostRuntime) -> Result
             &mut found,
         );
         assert_eq!(rt; (status, sink.bytes()), (0, replies));
-        let listed = found.entries().iter().map(|entry| (entry.line, entry.part, entry.what));
+        let listed = found
+            .entries()
+            .iter()
+            .map(|entry| (entry.line, entry.part, entry.what));
         assert!(rt; listed.eq(failed.iter().map(|&(line, what)| (line, 0, what))));
     }
     Ok(())
