@@ -27,7 +27,7 @@ use Rattle.shell_run.specs.Outer.{Outer, Takes, left_after}
 use Rattle.shell_run.specs.Ran.{IsFront}
 use Rattle.shell_run.specs.Takings.{Taking, fills_of}
 use Rattle.shell_run.specs.Texts.{error_line}
-use Rattle.shell_run.specs.Transcript.{World, world_of, told_world, Spot, takings_of, kit_of, Commanded, taking, refused_at_once, unless_refused, commanded, commanded_if, reply_output, Turn, turn_of, Answer, Goes, Ends, answer_of, answer_if}
+use Rattle.shell_run.specs.Transcript.{World, world_of, told_world, Spot, takings_of, kit_of, Commanded, taking, refused_at_once, unless_refused, commanded, commanded_if, reply_output, Turn, turn_of, Answer, Goes, Ends, answer_of}
 use Rattle.shell_run.proofs.KitLemmas.{told_at}
 use Rattle.shell_run.proofs.TakingLemmas.{takes_none}
 

@@ -1,11 +1,10 @@
 -- What a run has done, once its last line is written.
-use Rattle.std.proofs.Common.{◌≡◌, ◌≢◌, ◌⊎◌, inl, inr, ⊎_elim, ℕ, zero, suc, ◌+◌, ◌*◌, ◌≤◌, ◌<◌, nat_lt, Bool, true, false, ◌||◌, List, [], ◌∷◌, ◌++◌, length, take, drop, if◌then◌else◌, Option, Some, None, IfSome, refl, ap, sym, ◌∙◌, subst, append_assoc, arith, length-append, length-drop}
+use Rattle.std.proofs.Common.{◌≡◌, ◌≢◌, ◌⊎◌, inl, inr, ⊎_elim, ℕ, zero, suc, ◌+◌, ◌*◌, ◌≤◌, Bool, true, false, ◌||◌, List, [], ◌∷◌, ◌++◌, length, take, drop, if◌then◌else◌, Option, Some, None, IfSome, refl, ap, sym, ◌∙◌, subst, append_assoc, arith, length-append, length-drop}
 use Rattle.std.specs.Option.{option_and_then, option_map}
 use Rattle.std.specs.List.{AllByRecursion}
-use Rattle.std.specs.Io.KnownBytes.{Appends}
 use Rattle.std.proofs.lemmas.List.{append-nil}
 use Rattle.std.proofs.lemmas.Bool.Decides.{nat_tests}
-use Rattle.edge_io.specs.Counts.{one_more, raised, is_listed}
+use Rattle.edge_io.specs.Counts.{one_more, raised}
 use Rattle.edge_io.specs.Entropy.{is_short}
 use Rattle.edge_io.specs.Faults.{Rose}
 use Rattle.edge_io.specs.Told.{unread}
@@ -13,18 +12,16 @@ use Rattle.key_machine.specs.Plain.{no_keys}
 use Rattle.shell_run.specs.declared.ending.Ending.{Ending}
 use Rattle.shell_run.specs.declared.ending.Ending.TheVariants.{Done, Usage, BadLine, ReadFault, WriteFault, NoMemory}
 use Rattle.shell_run.specs.declared.found.FoundEntry.{FoundEntry}
-use Rattle.shell_run.specs.declared.found.FoundKind.{FoundKind}
 use Rattle.shell_run.specs.Answers.{Agrees}
 use Rattle.shell_run.specs.Endings.{status_of, closing_line, SourceFaults, SinkFaults, ClosesAs}
-use Rattle.shell_run.specs.Outer.{Outer, Calls, Called, Takes, FailWhereListedOrShort, failed_count}
-use Rattle.shell_run.specs.Progress.{Taken, Ends as EndsSo, WroteLast, RunsFrom}
-use Rattle.shell_run.specs.Ran.{IsAnswered, IsFront, IsCut, Came, Closes, Took, Printed, Ran, last_line}
-use Rattle.shell_run.specs.Takings.{Taking, failures, is_fetch, is_fill, outcomes, fetches_of, fills_of}
-use Rattle.shell_run.specs.Texts.{bad_line}
+use Rattle.shell_run.specs.Outer.{Outer, Takes, FailWhereListedOrShort, failed_count}
+use Rattle.shell_run.specs.Progress.{Taken, Ends as EndsSo, RunsFrom}
+use Rattle.shell_run.specs.Ran.{IsAnswered, IsFront, Came, Closes, Took, Ran, last_line, WroteLast}
+use Rattle.shell_run.specs.Takings.{Taking, failures, is_fetch, is_fill, fetches_of, fills_of}
 use Rattle.shell_run.specs.Transcript.{World, told_world, Run, Turn, replies_of, made_in, output_of, transcript, told_transcript}
 use Rattle.shell_run.proofs.CommandLemmas.{front_nil}
 use Rattle.shell_run.proofs.RunLemmas.{flat_map_both, unanswered}
-use Rattle.shell_run.proofs.TakingLemmas.{agrees_failures, failures_both, outcomes_both}
+use Rattle.shell_run.proofs.TakingLemmas.{agrees_failures, outcomes_both}
 use Rattle.shell_run.proofs.WritingLemmas.{Took-after, Took-from_Appends}
 
 -- where a run begins at the reader's first byte
@@ -344,3 +341,12 @@ sink_untouched e closed first before now closes_as none_bad faults kept =
     let closed_done : closed ≡ Done = subst (λ (x : Ending). ClosesAs x closed) done closes_as in
     let before_same : before ≡ first = subst (λ (x : Ending). SinkFaults (Some x) first before) done faults in
     kept (ap closing_line closed_done) ∙ before_same
+
+pub completes : (e closed : Ending) (s0 s1 o0 o1 o2 : ℕ) → ClosesAs e closed → SourceFaults (Some e) s0 s1 → SinkFaults (Some e) o0 o1 → o1 ≤ o2 → (Rose s0 s1 → ⊥) → (Rose o0 o2 → ⊥)
+    → IsAnswered (status_of closed) ⊎ (status_of closed ≡ 12)
+completes Done closed s0 s1 o0 o1 o2 closes_as source sink later read written = inl (inl (ap status_of closes_as))
+completes Usage closed s0 s1 o0 o1 o2 closes_as source sink later read written = inl (inr (inl (ap status_of closes_as)))
+completes (BadLine number at) closed s0 s1 o0 o1 o2 closes_as source sink later read written = ⊎_elim (λ bad. inl (inr (inr (ap status_of bad)))) (λ none. inr (ap status_of none)) closes_as
+completes ReadFault closed s0 s1 o0 o1 o2 closes_as source sink later read written = absurd (read source.1)
+completes WriteFault closed s0 s1 o0 o1 o2 closes_as source sink later read written = absurd (written (omega (arith, sink.1, later)))
+completes NoMemory closed s0 s1 o0 o1 o2 closes_as source sink later read written = inr (ap status_of closes_as)

@@ -4,7 +4,6 @@ use Rattle.std.proofs.lemmas.Bool.{cases_Bool}
 use Rattle.std.specs.Prelude.{unwrap_or, if◌then◌else◌}
 use Rattle.std.specs.List.{AllByRecursion}
 use Rattle.std.specs.Option.{option_map}
-use Rattle.std.specs.Result.{result_err}
 use Rattle.dataset_tree.specs.declared.kinds.Format.{Format}
 use Rattle.dataset_tree.specs.declared.kinds.Format.TheVariants.{Raw, Hex, Passphrase}
 use Rattle.dataset_tree.specs.declared.refusal.Refusal.{Refusal}
@@ -31,7 +30,7 @@ use Rattle.key_machine.specs.Get.{get_cases}
 use Rattle.key_machine.specs.Load.{load_cases, told_load, told_load_of, told_load_with}
 use Rattle.key_machine.specs.Plain.{Plain}
 use Rattle.key_machine.specs.Refusals.{first_of, first_refusal, not_built}
-use Rattle.key_machine.specs.Reply.{Reply, Done, Made, Text, Refused, Reaped, Skipped, Stepped, unless_refused}
+use Rattle.key_machine.specs.Reply.{Reply, Refused, Stepped, unless_refused}
 use Rattle.key_machine.specs.Step.{refusal_of, wanted, told, material_refusal, target, carried_out, in_use, key_step}
 use Rattle.key_machine.specs.Told.{Told, nothing_told, key_of, seed_of}
 use Rattle.key_machine.specs.Unload.{InUse, unload_cases, unloaded}

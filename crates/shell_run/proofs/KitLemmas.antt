@@ -1,5 +1,5 @@
 -- What is taken for a command: the old key, the new key and a seed.
-use Rattle.std.proofs.Common.{◌≡◌, ◌⊎◌, inl, inr, ◌<◌, ℕ, ◌+◌, ◌≤◌, Bool, true, false, ◌||◌, List, [], ◌∷◌, ◌++◌, take, drop, if◌then◌else◌, Option, Some, None, Result, Ok, Err, IsErr, IfOk, IfSome, refl, ap, sym, ◌∙◌, subst, append_assoc, arith}
+use Rattle.std.proofs.Common.{◌≡◌, inr, ◌<◌, ℕ, ◌+◌, ◌≤◌, Bool, true, false, ◌||◌, List, [], ◌∷◌, ◌++◌, drop, if◌then◌else◌, Option, Some, None, Result, Ok, Err, IsErr, IfOk, IfSome, refl, ap, sym, ◌∙◌, subst, append_assoc, arith}
 use Rattle.std.specs.declared.alloc.AllocError.{AllocError}
 use Rattle.std.specs.List.{AllByRecursion}
 use Rattle.std.proofs.lemmas.List.{append-nil}
@@ -20,8 +20,8 @@ use Rattle.shell_run.specs.declared.found.FoundKind.TheVariants.{OldKey, NewKey,
 use Rattle.shell_run.specs.Answers.{Acts, Agrees, Fetches, Fills, FillsFrom, GivesKit, IsCalled, TakesKit, fetch_fails, is_fault, is_seed_fault, spot_of, taking_with}
 use Rattle.shell_run.specs.Outer.{Calls, Outer, Takes, left_after}
 use Rattle.shell_run.specs.Ran.{IsFront}
-use Rattle.shell_run.specs.Takings.{rank, IsBefore, AreInOrder, Taking, has_entry, is_fetch, is_fill, fills_of}
-use Rattle.shell_run.specs.Transcript.{Spot, taking_at, seed_at, fetch_at, material_of, material_at, fill_at, seed_from, takings_of, kit_of}
+use Rattle.shell_run.specs.Takings.{rank, AreInOrder, Taking, has_entry, is_fetch, is_fill, fills_of}
+use Rattle.shell_run.specs.Transcript.{taking_at, seed_at, fetch_at, material_of, material_at, fill_at, seed_from}
 use Rattle.shell_run.proofs.TakingLemmas.{entries_made, all_both, all_first, all_second, all_weaker, order_both, takes_both, takes_fetch, takes_fill, takes_none}
 
 -- ---- one taking

@@ -1,11 +1,11 @@
 -- One line of a run, and many.
-use Rattle.std.proofs.Common.{◌≡◌, ◌≢◌, ℕ, zero, suc, ◌+◌, ◌<◌, ◌≤◌, nat_lt, true, false, List, [], ◌∷◌, ◌++◌, length, take, drop, Option, Some, None, Result, Ok, Err, IfSome, IsSomeAnd, OnOk, OnErr, refl, ap, sym, ◌∙◌, subst, append_assoc, arith, inl, inr, ⊎_elim}
+use Rattle.std.proofs.Common.{◌≡◌, ◌≢◌, ℕ, ◌+◌, ◌<◌, ◌≤◌, nat_lt, true, false, List, [], ◌∷◌, ◌++◌, length, take, drop, Option, Some, None, Result, Ok, Err, IfSome, IsSomeAnd, OnOk, OnErr, refl, ap, sym, ◌∙◌, subst, append_assoc, arith, inl, inr, ⊎_elim}
 use Rattle.std.specs.Io.KnownBytes.{Appends}
-use Rattle.std.specs.List.{AllByRecursion, flat_map}
+use Rattle.std.specs.List.{flat_map}
 use Rattle.std.proofs.lemmas.Bool.Decides.{nat_tests}
 use Rattle.std.proofs.lemmas.List.{append-nil}
 use Rattle.key_machine.specs.Plain.{Plain, no_keys}
-use Rattle.edge_io.specs.Faults.{HasCause, Rose}
+use Rattle.edge_io.specs.Faults.{HasCause}
 use Rattle.edge_io.specs.Told.{unread}
 use Rattle.edge_io.specs.Lines.{lines, first_line, next_line, rest_of}
 use Rattle.edge_io.proofs.LinesLemmas.{lines_next}
@@ -16,11 +16,11 @@ use Rattle.shell_lines.specs.Grammar.{line_of}
 use Rattle.shell_run.specs.declared.ending.Ending.{Ending}
 use Rattle.shell_run.specs.declared.ending.Ending.TheVariants.{Done, Usage, BadLine, ReadFault, WriteFault, NoMemory}
 use Rattle.shell_run.specs.declared.found.FoundEntry.{FoundEntry}
-use Rattle.shell_run.specs.Answers.{Acts, Agrees, AnswersTo, HasAnswer, HasTurn, WhereTold, answer_takings}
-use Rattle.shell_run.specs.Endings.{EndsInLine, SourceFaults, status_of, closing_line}
-use Rattle.shell_run.specs.Outer.{Outer, Takes}
-use Rattle.shell_run.specs.Progress.{Goes as GoesOn, Taken, Ends as EndsSo, TookCut, WroteLast, TakesLine, TakesNone, HasReplied, HasCut, Replied, LineRan, RunsFrom, StaysTold}
-use Rattle.shell_run.specs.Ran.{IsAnswered, IsFront, IsCut, Came, Closes, Took}
+use Rattle.shell_run.specs.Answers.{Acts, Agrees, AnswersTo, HasAnswer, WhereTold, answer_takings}
+use Rattle.shell_run.specs.Endings.{EndsInLine, SourceFaults, status_of}
+use Rattle.shell_run.specs.Outer.{Outer}
+use Rattle.shell_run.specs.Progress.{Goes as GoesOn, Taken, Ends as EndsSo, TookCut, TakesLine, TakesNone, HasReplied, HasCut, Replied, LineRan, RunsFrom, StaysTold}
+use Rattle.shell_run.specs.Ran.{IsAnswered, IsFront, IsCut, Came, WroteLast}
 use Rattle.shell_run.specs.Takings.{Taking, has_entry, entries_of}
 use Rattle.shell_run.specs.Texts.{bad_line}
 use Rattle.shell_run.specs.Transcript.{World, told_world, Run, Turn, Answer, Goes, Ends, preceded, replies_of, made_in, goes_on, checked, answer_if, run_within, run_from, transcript}

@@ -1,16 +1,15 @@
 -- Takings, one after another.
-use Rattle.std.proofs.Common.{◌≡◌, ◌⊎◌, inl, inr, ◌<◌, ℕ, ◌+◌, ◌≤◌, min, ◌-◌, ◌^◌, Bool, true, false, ◌&&◌, ◌||◌, ◌==◌, List, [], ◌∷◌, ◌++◌, length, take, drop, map, if◌then◌else◌, Option, Some, None, IfSome, refl, ap, sym, ◌∙◌, subst, append_assoc, ⊎_elim, arith}
+use Rattle.std.proofs.Common.{◌≡◌, ◌⊎◌, inl, inr, ◌<◌, ℕ, ◌+◌, Bool, true, false, ◌&&◌, ◌||◌, ◌==◌, List, [], ◌∷◌, ◌++◌, drop, map, if◌then◌else◌, Option, Some, None, IfSome, refl, ap, sym, ◌∙◌, subst, append_assoc, ⊎_elim, arith}
 use Rattle.std.specs.Option.{option_map}
 use Rattle.std.specs.List.{AllByRecursion}
 use Rattle.std.proofs.lemmas.List.{append-nil}
 use Rattle.std.proofs.lemmas.Bool.Decides.{nat_tests}
-use Rattle.edge_io.specs.Counts.{raised, one_more, is_listed, next_listed}
+use Rattle.edge_io.specs.Counts.{one_more, is_listed, next_listed}
 use Rattle.edge_io.specs.Entropy.{is_short, fill_fails}
-use Rattle.edge_io.specs.Faults.{Rose}
 use Rattle.shell_run.specs.declared.found.FoundEntry.{FoundEntry}
 use Rattle.shell_run.specs.declared.found.FoundKind.{FoundKind}
 use Rattle.shell_run.specs.declared.found.FoundKind.TheVariants.{OldKey, NewKey, Seed, Streams, Shelf}
-use Rattle.shell_run.specs.Answers.{IsCalled, CountsFault, Agrees, taking_with}
+use Rattle.shell_run.specs.Answers.{IsCalled, Agrees, taking_with}
 use Rattle.shell_run.specs.Outer.{Calls, Outer, number_after, failed_count, Called, FailWhereListed, left_after, FailWhereListedOrShort, Takes}
 use Rattle.shell_run.specs.Takings.{rank, IsBefore, AreInOrder, entries_of, has_entry, Taking, failures, is_fetch, is_fill, outcomes, fetches_of, fills_of}
 

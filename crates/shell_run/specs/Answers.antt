@@ -1,5 +1,5 @@
 -- What the calls that carry out a line say of their answers.
-use Rattle.std.specs.Prelude.{◌≡◌, ◌≢◌, ℕ, ◌≤◌, Bool, true, false, ◌||◌, is_some, take, drop, List, ◌++◌, [], ◌∷◌, IfSome, OnOk, Result, Ok, Err}
+use Rattle.std.specs.Prelude.{◌≡◌, ◌≢◌, ℕ, ◌≤◌, Bool, true, false, ◌||◌, is_some, take, drop, List, ◌++◌, [], IfSome, Result, Ok, Err}
 use Rattle.std.specs.declared.alloc.AllocError.{AllocError}
 use Rattle.std.specs.declared.option.Option.{Option}
 use Rattle.std.specs.declared.option.Option.TheVariants.{Some}
@@ -35,7 +35,7 @@ use Rattle.shell_run.specs.Outer.{Calls, Outer, Takes}
 use Rattle.shell_run.specs.Ran.{IsFront}
 use Rattle.shell_run.specs.Takings.{Taking, has_entry}
 use Rattle.shell_run.specs.Texts.{ok_line, text_line, error_line}
-use Rattle.shell_run.specs.Transcript.{World, told_world, Spot, fetch_at, material_at, fill_at, seed_from, takings_of, kit_of, Commanded, commanded, refused_at_once, Turn, turn_of, Answer, Goes, Ends, answer_of, answer_if}
+use Rattle.shell_run.specs.Transcript.{World, Spot, fetch_at, material_at, fill_at, seed_from, takings_of, kit_of, Commanded, commanded, refused_at_once, Turn, turn_of, Answer, Goes, Ends, answer_of, answer_if}
 
 -- ---- takings
 

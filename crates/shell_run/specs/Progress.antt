@@ -1,5 +1,5 @@
 -- How far a run has come.
-use Rattle.std.specs.Prelude.{Result, Ok, Err, ◌≡◌, ◌⊎◌, ℕ, ◌+◌, ◌<◌, ◌≤◌, List, [], ◌∷◌, ◌++◌, length, IfSome, IsSomeAnd}
+use Rattle.std.specs.Prelude.{Result, Err, ◌≡◌, ℕ, ◌+◌, ◌<◌, List, [], ◌∷◌, length, IfSome, IsSomeAnd}
 use Rattle.std.specs.declared.option.Option.{Option}
 use Rattle.std.specs.declared.option.Option.TheVariants.{Some, None}
 use Rattle.std.specs.Io.KnownBytes.{Appends}
@@ -8,7 +8,7 @@ use Rattle.shell_lines.specs.declared.line.Line.{Line}
 use Rattle.shell_run.specs.declared.ending.Ending.{Ending}
 use Rattle.shell_run.specs.declared.ending.Ending.TheVariants.{Done, Usage, BadLine, ReadFault, WriteFault, NoMemory}
 use Rattle.shell_run.specs.declared.found.FoundEntry.{FoundEntry}
-use Rattle.shell_run.specs.Answers.{Agrees, HasTurn, HasAnswer, answer_takings}
+use Rattle.shell_run.specs.Answers.{Agrees, answer_takings}
 use Rattle.shell_run.specs.Endings.{status_of, closing_line}
 use Rattle.shell_run.specs.Outer.{Outer, Takes}
 use Rattle.shell_run.specs.Ran.{IsAnswered, IsFront, IsCut, Came, Closes, Took}
@@ -39,12 +39,6 @@ pub record TookCut (bytes : List ℕ) (before after : Option (List ℕ)) : Type 
   pub part : List ℕ
   pub taken : Took before after part
   pub is_cut : IsCut part bytes
-
--- the closing line was written, or cut short by a fault of the sink
-pub record WroteLast (line : List ℕ) (before after : Option (List ℕ)) (faults_before faults : ℕ) : Type 0 where
-  pub part : List ℕ
-  pub taken : Took before after part
-  pub closed : Closes line part faults_before faults
 
 -- a line was taken from the unread bytes, and these are left
 abbrev pub TakesLine : List ℕ → List ℕ → Option (List ℕ) → Type 0

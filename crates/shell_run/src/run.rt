@@ -11,8 +11,8 @@ ghost use Rattle.shell_run.specs.declared.found.FoundEntry.{FoundEntry};
 ghost use Rattle.shell_run.specs.Answers.{Acts, WhereTold};
 ghost use Rattle.shell_run.specs.Endings.{EndsInLine, closing_line, SourceFaults, SinkFaults, ClosesAs};
 ghost use Rattle.shell_run.specs.Outer.{Outer, calls_of};
-ghost use Rattle.shell_run.specs.Progress.{Ends, LineRan, Replied, RunsFrom, StaysTold, TakesLine, TakesNone, TookCut, WroteLast};
-ghost use Rattle.shell_run.specs.Ran.{IsAnswered, Printed, Ran};
+ghost use Rattle.shell_run.specs.Progress.{Ends, LineRan, Replied, RunsFrom, StaysTold, TakesLine, TakesNone, TookCut};
+ghost use Rattle.shell_run.specs.Ran.{IsAnswered, Printed, Ran, WroteLast};
 ghost use Rattle.shell_run.specs.Texts.{usage_line};
 ghost use Rattle.shell_run.specs.Transcript.{World, told_transcript, told_world, run_from, transcript};
 
@@ -63,7 +63,8 @@ pub fn run_alone<S: Source, O: Sink, F: KeyFiles, E: Entropy>(
 ) -> u8
     requires { found.old ≡ [] }
 
-    // What is told of the outside before and after, and how far the run came of the transcript in which the listed takings fail.
+    // What is told of the outside before and after the run, and how far the run came of the
+    // transcript in which the listed takings fail.
     ensures ran { let before : Outer = record {
       files = F.files files.old;
       fetches = calls_of (F.calls files.old) (F.failing files.old) (F.faults files.old);
@@ -82,7 +83,8 @@ pub fn run_alone<S: Source, O: Sink, F: KeyFiles, E: Entropy>(
         let unprinted : Printed = record { taken = O.taken out.old; faults = O.faults out.old } in
         let printed : Printed = record { taken = O.taken out.new; faults = O.faults out.new } in
         Ran run result unprinted printed before after }
-    ensures read_to_its_end { result ≡ 0 → IfSome (S.left script.old) (λ bytes. S.left script.new ≡ Some []) }
+    ensures read_to_its_end { result ≡ 0 →
+        IfSome (S.left script.old) (λ bytes. S.left script.new ≡ Some []) }
 
     // Told or not, each status has its cause.
     ensures statuses { IsAnswered result ⊎ (result ≡ 4) ⊎ (result ≡ 5) ⊎ (result ≡ 12) }
@@ -90,6 +92,8 @@ pub fn run_alone<S: Source, O: Sink, F: KeyFiles, E: Entropy>(
     ensures write_fault { result ≡ 5 → Rose (O.faults out.old) (O.faults out.new) }
     ensures no_read_fault { result ≢ 4 → S.faults script.new ≡ S.faults script.old }
     ensures no_write_fault { result ≡ 0 → O.faults out.new ≡ O.faults out.old }
+    ensures complete { ¬ Rose (S.faults script.old) (S.faults script.new) →
+        ¬ Rose (O.faults out.old) (O.faults out.new) → IsAnswered result ⊎ (result ≡ 12) }
     ensures read_faults { S.faults script.old ≤ S.faults script.new }
     ensures write_faults { O.faults out.old ≤ O.faults out.new }
 
@@ -97,9 +101,10 @@ pub fn run_alone<S: Source, O: Sink, F: KeyFiles, E: Entropy>(
     ensures usage { words.now ≢ [] → result ≡ 2 }
     ensures usage_only { result ≡ 2 → words.now ≢ [] }
     ensures usage_line { words.now ≢ [] →
-        WroteLast usage_line (O.taken out.old) (O.taken out.new) (O.faults out.old) (O.faults out.new) }
-    ensures usage_takes_nothing { words.now ≢ [] →
-        (script.new ≡ script.old) × (files.new ≡ files.old) × (entropy.new ≡ entropy.old) × (found.new ≡ []) }
+        WroteLast usage_line (O.taken out.old) (O.taken out.new)
+        (O.faults out.old) (O.faults out.new) }
+    ensures usage_takes_nothing { words.now ≢ [] → (script.new ≡ script.old)
+        × (files.new ≡ files.old) × (entropy.new ≡ entropy.old) × (found.new ≡ []) }
 
     // Where no count rose, nothing is listed.
     ensures none_failed { ¬ Rose (F.faults files.old) (F.faults files.new) →

@@ -1,8 +1,7 @@
-use Rattle.std.proofs.Common.{refl, false, None, Ok, ◌++◌, [], List, ℕ, ap, ◌∙◌}
+use Rattle.std.proofs.Common.{refl, false, None, Ok, ◌++◌, [], ap}
 use Rattle.std.specs.List.{flat_map}
 use Rattle.dataset_tree.specs.SetName.{named}
 use Rattle.encryption_roots.specs.declared.command.KeyCmd.TheVariants as commands
-use Rattle.shell_lines.specs.declared.line.Line.{Line}
 use Rattle.shell_lines.specs.declared.line.Line.TheVariants.{Silent, Create, LoadKey, UnloadKey, Get, List as ListSets}
 use Rattle.shell_run.specs.Texts.{ok_line, set_line}
 use Rattle.shell_run.specs.Transcript.{command_named}

@@ -1,5 +1,5 @@
-use Rattle.std.proofs.Common.{◌≡◌, ◌≤◌, ◌∙◌, sym}
-use Rattle.shell_run.proofs.EndingLemmas.{done_is, ran, none_listed, same_names, sink_untouched, source_unread}
+use Rattle.std.proofs.Common.{◌≤◌, ◌∙◌, sym}
+use Rattle.shell_run.proofs.EndingLemmas.{completes, done_is, ran, none_listed, same_names, sink_untouched, source_unread}
 use Rattle.shell_run.proofs.run.run_alone.Goals as goal
 
 pub returns-clause-ran : goal.returns-clause-ran
@@ -26,3 +26,8 @@ returns-clause-no_read_fault g c = λ other. source_unread c.run_words-ending.re
 pub returns-clause-no_write_fault : goal.returns-clause-no_write_fault
 returns-clause-no_write_fault g c = λ none_bad.
     sink_untouched c.run_words-ending.result c.close.result _ (g.O.Sink.faults c.run_words-ending.new.out) _ c.close.ensures.ending (sym c.status.ensures ∙ none_bad) c.run_words-ending.ensures.sink (λ none. (c.close.ensures.silent none).0)
+
+pub returns-clause-complete : goal.returns-clause-complete
+returns-clause-complete g c = λ read written.
+    rw c.status.ensures
+    (completes c.run_words-ending.result c.close.result _ _ _ (g.O.Sink.faults c.run_words-ending.new.out) _ c.close.ensures.ending c.run_words-ending.ensures.source c.run_words-ending.ensures.sink c.close.ensures.later read written)

@@ -1,8 +1,8 @@
-use Rattle.std.proofs.Common.{◌≡◌, ◌<◌, ◌≤◌, ◌+◌, ◌∙◌, Option, Some, List, ℕ, refl, ap, subst, arith}
+use Rattle.std.proofs.Common.{◌≡◌, ◌<◌, ◌∙◌, Option, Some, List, ℕ, refl, ap, subst, arith}
 use Rattle.edge_io.specs.Told.{unread}
 use Rattle.shell_run.specs.Outer.{Outer}
 use Rattle.shell_run.specs.Progress.{RunsFrom}
-use Rattle.shell_run.specs.Transcript.{World, told_world}
+use Rattle.shell_run.specs.Transcript.{told_world}
 use Rattle.shell_run.proofs.RunLemmas.{HasReached, all_read, stays_none, stays_more, reached_none, reached_more, reached_end, reached_limit}
 use Rattle.shell_run.proofs.run.run_lines.Goals as goal
 
