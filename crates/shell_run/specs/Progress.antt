@@ -11,7 +11,7 @@ use Rattle.shell_run.specs.declared.found.FoundEntry.{FoundEntry}
 use Rattle.shell_run.specs.Answers.{Agrees, answer_takings}
 use Rattle.shell_run.specs.Endings.{status_of, closing_line}
 use Rattle.shell_run.specs.Outer.{Outer, Takes}
-use Rattle.shell_run.specs.Ran.{IsAnswered, IsFront, IsCut, Came, Closes, Took}
+use Rattle.shell_run.specs.Ran.{IsAnswered, IsFront, IsCut, Came, Took}
 use Rattle.shell_run.specs.Takings.{Taking}
 use Rattle.shell_run.specs.Transcript.{World, Run, Turn, Answer, Goes as TakesTurn, Ends as EndsRun, preceded, replies_of, made_in, run_from, answer_if}
 
