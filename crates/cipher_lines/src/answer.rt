@@ -3,6 +3,7 @@ ghost use Rattle.std.specs.Prelude.{◌≡◌, ◌≤◌, ◌*◌, ◌↔◌, le
 ghost use Rattle.aes_block.specs.Cipher.{IsKeySize};
 ghost use Rattle.gcm_seal.specs.Gcm.{IsKeyLength};
 
+use crate::block::{answer_open_block, answer_seal_block};
 use crate::words::{array, bytes, hex_word, number};
 use aes_block::Aes;
 use anyhow::{Result, bail, ensure};
@@ -38,6 +39,10 @@ pub(crate) fn answer(alloc: Global, line: &str) -> Result<String> {
         ["hkdf", ikm, info, length] => answer_hkdf(alloc, ikm, info, length),
         ["pbkdf2", secret, salt, iterations, length] => {
             answer_pbkdf2(alloc, secret, salt, iterations, length)
+        }
+        ["seal-block", master, salt, iv, text] => answer_seal_block(alloc, master, salt, iv, text),
+        ["open-block", master, salt, iv, sealed, mac] => {
+            answer_open_block(alloc, master, salt, iv, sealed, mac)
         }
         _ => bail!("no such command"),
     }

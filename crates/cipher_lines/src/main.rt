@@ -6,6 +6,7 @@
 #![tactic(auto)]
 
 mod answer;
+mod block;
 mod words;
 
 use answer::answer;
