@@ -13,3 +13,6 @@ pub mod FairLaws
 pub mod HoldLaws
 pub mod RefusalLaws
 pub mod FamilyLaws
+pub mod RekeyOwners
+pub mod RekeyRecords
+pub mod ChangeLaws
