@@ -80,10 +80,10 @@ changeable p name opts load_first id tree accepted at =
 
 -- ---- the changed state
 
-some_id : (b : ℕ) → is_same b (Some b) ≡ true
+pub some_id : (b : ℕ) → is_same b (Some b) ≡ true
 some_id b = eq-eqb b b refl
 
-not_same : (root : ℕ) (found : Option ℕ) → (found ≡ Some root → ⊥) → is_same root found ≡ false
+pub not_same : (root : ℕ) (found : Option ℕ) → (found ≡ Some root → ⊥) → is_same root found ≡ false
 not_same root None apart = refl
 not_same root (Some other) apart = ne_eqb other root (λ same. apart (ap (λ m. Some m) same))
 

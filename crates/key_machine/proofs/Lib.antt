@@ -16,3 +16,7 @@ pub mod FamilyLaws
 pub mod RekeyOwners
 pub mod RekeyRecords
 pub mod ChangeLaws
+pub mod InheritLaws
+pub mod RekeyFair
+pub mod ToldLaws
+pub mod RekeyLaws

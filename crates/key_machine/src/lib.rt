@@ -4,12 +4,17 @@
 //! gives a key, and the words of a seed are their arguments (`Ciphers`). The functions below are laws of the definitions.
 #![tactic(auto)]
 
+mod change_laws;
 mod create_laws;
 mod key_laws;
 mod laws;
 mod sound_laws;
 mod values;
 
+pub use change_laws::{
+    a_wrong_key_names_the_first_family, new_wrapping_keys_change_their_families_alone,
+    new_wrapping_keys_keep_the_master_keys,
+};
 pub use create_laws::a_new_root_has_its_key;
 pub use key_laws::{
     a_load_adds_its_key_alone, a_load_is_accepted_where_the_records_open,
