@@ -5,18 +5,15 @@ use Rattle.encryption_roots.specs.declared.props.Props.{Props}
 use Rattle.encryption_roots.specs.RecordSize.{IsRecordSize}
 use Rattle.key_machine.specs.Create.{new_iters, new_salt, new_suite, seeded_record}
 use Rattle.key_ciphers.specs.Ciphers.{ciphers}
-use Rattle.key_store.proofs.CreateLemmas.{key_fault, seed_fault, is_told}
+use Rattle.key_store.proofs.CreateLemmas.{stopped, key_stopped, is_told}
 use Rattle.key_store.proofs.state.KeyState.new_root.Goals as goal
 
 pub returns-in-Err-clause-fault : goal.returns-in-Err-clause-fault
 returns-in-Err-clause-fault c =
-    key_fault c.args.self.now c.args.name.now c.args.opts.now c.args.kit.now c.args.format c.requires.root c.fetched_key.result c.fetched_key.ensures c.in-Err.why c.in-Err.is
+    stopped c.args.self.now c.args.name.now c.args.opts.now c.args.kit.now c.args.format c.requires.root c.new_iters.result c.new_iters.ensures.iters c.seed_behind_key.result c.seed_behind_key.ensures c.in-Err.why c.in-Err.is
 
-pub returns-in_default : goal.returns-in_default
-returns-in_default c = record {
-  root = tt;
-  fault = seed_fault c.args.self.now c.args.name.now c.args.opts.now c.args.kit.now c.args.format c.requires.root c.fetched_key.result c.fetched_key.ensures c.in-Ok.key c.in-Ok.is (λ bytes got. c.in_default.not-Got bytes got);
-}
+pub returns-in-Err-fetched_key-clause-fault : goal.returns-in-Err-fetched_key-clause-fault
+returns-in-Err-fetched_key-clause-fault c = ?
 
 -- the options' record size, or the one where they have none, is in form
 in_form : (block : Option ℕ) → IfSome block IsRecordSize → IsRecordSize (unwrap_or block 131072)
