@@ -17,3 +17,4 @@ pub mod Step
 pub mod Busy
 pub mod Fair
 pub mod Sample
+pub mod Plan

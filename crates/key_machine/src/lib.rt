@@ -10,6 +10,7 @@ mod key_laws;
 mod laws;
 mod sound_laws;
 mod values;
+mod view;
 
 pub use change_laws::{
     a_wrong_key_names_the_first_family, new_wrapping_keys_change_their_families_alone,
@@ -30,3 +31,4 @@ pub use values::{
     loads_are_refused_in_order, master_keys_of_families, places_of_takings, users_of_keys,
     words_of_slots,
 };
+pub use view::{ChangePlan, KeyView};
