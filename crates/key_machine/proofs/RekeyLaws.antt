@@ -6,7 +6,8 @@ use Rattle.std.specs.Prelude.{unwrap_or}
 use Rattle.std.specs.List.{All}
 use Rattle.std.specs.Option.{option_and_then}
 use Rattle.dataset_tree.specs.declared.refusal.Refusal.{Refusal}
-use Rattle.dataset_tree.specs.declared.refusal.Refusal.TheVariants.{WrongKey, EntropyFault}
+use Rattle.dataset_tree.specs.declared.refusal.Refusal.TheVariants.{WrongKey, KeyUnavailable, EntropyFault}
+use Rattle.dataset_tree.specs.Tree.{row_named}
 use Rattle.encryption_roots.specs.declared.command.KeyCmd.TheVariants as commands
 use Rattle.encryption_roots.specs.declared.kit.LineKit.{LineKit}
 use Rattle.encryption_roots.specs.declared.kit.SeedGot.{SeedGot}
@@ -18,8 +19,9 @@ use Rattle.encryption_roots.specs.Owners.{family}
 use Rattle.encryption_roots.proofs.ByIdLemmas.{at_id-with_id, at_id-with_id_other, at_id-without_id, at_id-without_id_other}
 use Rattle.encryption_roots.proofs.OwnerLemmas.{owner_of_family}
 use Rattle.key_machine.specs.Change.{changed_props, changed_format, changed_iters, changed_salt, change_families, told_changed, told_change, changed, change_done}
+use Rattle.key_machine.specs.Create.{has_parent_key}
 use Rattle.key_machine.specs.Fair.{IsFair, AllKept}
-use Rattle.key_machine.specs.Inherit.{unless_seed, key_above, inherit_families, inherit_key, told_inherited, told_inherit, inherited, inherit_done}
+use Rattle.key_machine.specs.Inherit.{unless_seed, key_fault, row_above, key_above, inherit_families, inherit_key, told_inherited, told_inherit, inherited, inherit_done}
 use Rattle.key_machine.specs.Load.{first_wrong}
 use Rattle.key_machine.specs.Plain.{Plain, Stored, Ciphers, owner_of, has_key, has_key_of, is_same, owned, mkey}
 use Rattle.key_machine.specs.Refusals.{first_refusal}
@@ -250,12 +252,16 @@ change_is_refused c p name opts load_first kit first state wrong =
     ap (λ (stepped : Stepped). stepped.reply) (refused_by_material p (commands.Change name opts load_first) facts (WrongKey first) state
     (ap (λ (found : Option ℕ). first_refusal (option_map (λ dataset. WrongKey dataset) found ∷ facts.fault ∷ [])) wrong))
 
+wrong_is_first : (key wrong parent fault : Option Refusal) (why : Refusal) → key ≡ None → wrong ≡ Some why → first_refusal (key ∷ wrong ∷ parent ∷ fault ∷ []) ≡ Some why
+wrong_is_first key wrong parent fault why none is =
+    ap (λ (first : Option Refusal). first_refusal (first ∷ wrong ∷ parent ∷ fault ∷ [])) none ∙ ap (λ (first : Option Refusal). first_refusal (first ∷ parent ∷ fault ∷ [])) is
+
 pub inherit_is_refused : (c : Ciphers) (p : Plain) (name : List ℕ) (load_first : Bool) (kit : LineKit) (first : ℕ) → refusal_of p (commands.Inherit name load_first) ≡ None
     → (told c p (commands.Inherit name load_first) kit).wrong ≡ Some first
     → (key_step p (commands.Inherit name load_first) (told c p (commands.Inherit name load_first) kit)).reply ≡ Refused (WrongKey first)
 inherit_is_refused c p name load_first kit first state wrong =
     let facts : Told = told c p (commands.Inherit name load_first) kit in
-    let none : option_and_then unless_seed facts.fault ≡ None = no_key_fault c p load_first kit first (target p (commands.Inherit name load_first)) wrong in
+    let none : key_fault facts ≡ None = no_key_fault c p load_first kit first (target p (commands.Inherit name load_first)) wrong in
+    let loaded : Option Refusal = if has_parent_key p (row_above p (row_named name p.tree.rows)) then None else Some KeyUnavailable in
     ap (λ (stepped : Stepped). stepped.reply) (refused_by_material p (commands.Inherit name load_first) facts (WrongKey first) state
-    (ap (λ (found : Option Refusal). first_refusal (found ∷ option_map (λ dataset. WrongKey dataset) facts.wrong ∷ _ ∷ facts.fault ∷ [])) none
-    ∙ ap (λ (found : Option ℕ). first_refusal (option_map (λ dataset. WrongKey dataset) found ∷ _ ∷ facts.fault ∷ [])) wrong))
+    (wrong_is_first (key_fault facts) (option_map (λ dataset. WrongKey dataset) facts.wrong) loaded facts.fault (WrongKey first) none (ap (λ (found : Option ℕ). option_map (λ dataset. WrongKey dataset) found) wrong)))
