@@ -8,6 +8,9 @@ pub mod Told
 pub mod Create
 pub mod Load
 pub mod Unload
+pub mod Rekey
+pub mod Change
+pub mod Inherit
 pub mod Get
 pub mod Step
 pub mod Busy
