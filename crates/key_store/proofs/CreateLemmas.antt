@@ -1,5 +1,5 @@
 -- A create that the state doesn't refuse.
-use Rattle.std.proofs.Common.{◌≡◌, inr, ℕ, ◌+◌, ◌<◌, ◌≤◌, Bool, true, false, not, cond, ◌&&◌, ◌||◌, nat_le, List, [], ◌∷◌, length, map, Option, Some, None, ◌==◌, Result, Ok, Err, is_some, is_none, refl, ap, sym, ◌∙◌, subst, arith}
+use Rattle.std.proofs.Common.{◌≡◌, inr, ℕ, ◌+◌, ◌<◌, ◌≤◌, Bool, true, false, not, cond, ◌&&◌, ◌||◌, nat_le, List, [], ◌∷◌, length, map, Option, Some, None, IfSome, ◌==◌, Result, Ok, Err, is_some, is_none, refl, ap, sym, ◌∙◌, subst, arith}
 use Rattle.std.proofs.lemmas.Bool.Decides.{nat_tests}
 use Rattle.std.proofs.lemmas.List.Elements.{All-nil, All-cons, recursion_from_All}
 use Rattle.dataset_tree.specs.declared.kinds.Kind.TheVariants.{Plain as PlainKind, Crypt}
@@ -49,6 +49,11 @@ pub few_families : (p : Plain) (name : List ℕ) (opts : Options) → IsFree p n
 few_families p name opts is encrypted =
     let test : nat_le 32 (length p.wrapped) ≡ false = rw encrypted at is.families in
     grind (arith, nat_tests)
+
+-- the options' record size, or the one where they have none, is in form
+pub size_in_form : (block : Option ℕ) → IfSome block IsRecordSize → IsRecordSize (unwrap_or block 131072)
+size_in_form None given = refl
+size_in_form (Some block) given = given
 
 -- ---- the new id
 
