@@ -270,10 +270,7 @@ impl KeyState {
         let below = self.is_below_encrypted(name);
         match opts.format {
             Some(_) => opts.iters.is_some() && !is_passphrase(opts.format),
-            None => opts.place.is_some()
-                || opts.iters.is_some()
-                || opts.suite.is_some() && !below
-                || below,
+            None => opts.place.is_some() || opts.iters.is_some() || opts.suite.is_some() && !below,
         }
     }
 }
