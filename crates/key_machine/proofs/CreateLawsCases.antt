@@ -88,7 +88,7 @@ found_by_id test (first ∷ rows) row rising found =
           rw unlike (rest behind))
     ]) found
 
-encrypted_kind : (kind : Kind) → is_encrypted_kind kind ≡ true → kind ≡ Crypt
+pub encrypted_kind : (kind : Kind) → is_encrypted_kind kind ≡ true → kind ≡ Crypt
 encrypted_kind PlainKind h = cc
 encrypted_kind Crypt h = refl
 

@@ -20,11 +20,11 @@ use Rattle.key_machine.proofs.CreateLawsCases.{created_with, record_opens, plain
 
 -- ---- what the state doesn't refuse
 
-abbrev NoneHolds : List (Bool × Refusal) → Type 0
+abbrev pub NoneHolds : List (Bool × Refusal) → Type 0
 NoneHolds [] = Unit {0}
 NoneHolds (case ∷ cases) = (case.0 ≡ false) × NoneHolds cases
 
-none_holds : (cases : List (Bool × Refusal)) → first_of cases ≡ None → NoneHolds cases
+pub none_holds : (cases : List (Bool × Refusal)) → first_of cases ≡ None → NoneHolds cases
 none_holds [] none = tt
 none_holds (case ∷ cases) none =
     ⊎_elim (λ (holds : case.0 ≡ true). absurd (let some : Some case.1 ≡ None = rw holds at none in cc)) (λ (fails : case.0 ≡ false). (fails, none_holds cases (rw fails at none))) (cases_Bool case.0)

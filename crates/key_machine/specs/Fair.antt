@@ -30,10 +30,11 @@ pub record IsMaster (m : Master) : Type 0 where
   pub master : length m.master ≡ suite_key_len m.suite
   pub hmac : length m.hmac ≡ 64
 
--- A record that is made opens, under its wrapping key, to its master key; a seed gives as many bytes as are asked for; and material
--- gives keys of 32 bytes.
+-- A record that is made opens, under its wrapping key, to its master key, and what a record opens to is one; a seed gives as many bytes
+-- as are asked for; and material gives keys of 32 bytes.
 pub record AreSound (c : Ciphers) : Type 0 where
   pub opened : (m : Master) (key vector : List ℕ) → IsMaster m → length vector ≡ 12 → c.opens (c.record_of m key vector) key ≡ Some m
+  pub masters : (stored key : List ℕ) (m : Master) → c.opens stored key ≡ Some m → IsMaster m
   pub words : (seed : List ℕ) (place n : ℕ) → length (c.seed_bytes seed place n) ≡ n
   pub numbers : (seed : List ℕ) (place : ℕ) → little_endian_value (c.seed_bytes seed place 8) < 2 ^ 64
   pub keys : (format : Format) (material : List ℕ) (iters salt : ℕ) (key : List ℕ) → c.wkey format material iters salt ≡ Ok key → length key ≡ key_len

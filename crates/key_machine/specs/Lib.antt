@@ -11,6 +11,7 @@ pub mod Unload
 pub mod Rekey
 pub mod Change
 pub mod Inherit
+pub mod Rekeyed
 pub mod Get
 pub mod Step
 pub mod Busy
