@@ -1,1 +1,6 @@
-
+pub mod FamiliesLemmas
+pub mod RecordLemmas
+pub mod KeyLemmas
+pub mod FamilyRecords
+pub mod PlanLemmas
+pub mod ChangeLemmas

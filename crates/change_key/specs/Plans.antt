@@ -14,20 +14,19 @@ use Rattle.encryption_roots.specs.Owners.{family}
 use Rattle.key_machine.specs.declared.view.ChangePlan.{ChangePlan}
 use Rattle.key_machine.specs.Change.{changed_props, changed_salt, with_own_root}
 use Rattle.key_machine.specs.Fair.{families_written}
-use Rattle.key_machine.specs.Plain.{Plain, owner_of, owned, has_key, mkey}
+use Rattle.key_machine.specs.Plain.{Plain, Ciphers, owner_of, owned, has_key, mkey}
 use Rattle.key_machine.specs.Plan.{planned}
 use Rattle.key_machine.specs.Rekey.{rewrapped}
 use Rattle.key_machine.specs.Reply.{Stepped, Reply, Done, Refused}
 use Rattle.key_machine.specs.Sound.{OpensAt}
 use Rattle.key_machine.specs.Step.{told, target, key_step, IsAccepted}
 use Rattle.key_machine.specs.Told.{seed_of}
-use Rattle.key_ciphers.specs.Ciphers.{ciphers}
 use Rattle.change_key.specs.Keys.{new_key_of}
 use Rattle.change_key.specs.Records.{opened_in}
 
 -- the step of a command under what its kit tells
-abbrev pub stepped : Plain → KeyCmd → LineKit → Stepped
-stepped p command kit = key_step p command (told ciphers p command kit)
+abbrev pub stepped : Ciphers → Plain → KeyCmd → LineKit → Stepped
+stepped c p command kit = key_step p command (told c p command kit)
 
 -- A call that plans gives a plan exactly where the step is done, and is refused exactly as the step is, want of memory apart.
 abbrev pub AnswersPlan : {T : Type 0} → Result T Stop → Reply → Type 0
@@ -37,47 +36,47 @@ AnswersPlan (Err stops.NoMemory) reply = Unit {0}
 
 -- The present key was had, loaded or fetched for this line, and there is a new key. Under that each record of these opens, and to the master
 -- key to which the family's stored record opens under the present key.
-pub record KeepsMasters (p : Plain) (present : Result (List ℕ) Why) (new : Option (List ℕ)) (records : List (ℕ × List ℕ)) : Type 0 where
+pub record KeepsMasters (c : Ciphers) (p : Plain) (present : Result (List ℕ) Why) (new : Option (List ℕ)) (records : List (ℕ × List ℕ)) : Type 0 where
   pub old : List ℕ
   pub key : List ℕ
   pub had : present ≡ Ok old
   pub given : new ≡ Some key
-  pub opens : All (λ entry. is_some (ciphers.opens entry.1 key) ≡ true) records
-  pub same : All (λ entry. ciphers.opens entry.1 key ≡ opened_in p old entry.0) records
+  pub opens : All (λ entry. is_some (c.opens entry.1 key) ≡ true) records
+  pub same : All (λ entry. c.opens entry.1 key ≡ opened_in c p old entry.0) records
 
 -- The command is accepted, and the plan makes its state. The plan is about the command's dataset, and has the records of exactly the families
 -- whose records the command writes, in order of id, with their master keys. So each family's master key is what it was, wherever the key of its owner
 -- was loaded.
-pub record IsPlanOf (p : Plain) (command : KeyCmd) (kit : LineKit) (present : Result (List ℕ) Why) (new : Option (List ℕ)) (plan : ChangePlan) : Type 0 where
-  pub accepted : IsAccepted p command (told ciphers p command kit)
-  pub state : planned p plan ≡ (stepped p command kit).state
+pub record IsPlanOf (c : Ciphers) (p : Plain) (command : KeyCmd) (kit : LineKit) (present : Result (List ℕ) Why) (new : Option (List ℕ)) (plan : ChangePlan) : Type 0 where
+  pub accepted : IsAccepted p command (told c p command kit)
+  pub state : planned p plan ≡ (stepped c p command kit).state
   pub root : target p command ≡ Some plan.root
   pub families : map (λ entry. entry.0) plan.wrapped.items ≡ families_written p command
-  pub masters : KeepsMasters p present new plan.wrapped.items
-  pub kept : (dataset : ℕ) → has_key p dataset ≡ true → mkey ciphers (planned p plan) (family p.tree.rows dataset) ≡ mkey ciphers p (family p.tree.rows dataset)
+  pub masters : KeepsMasters c p present new plan.wrapped.items
+  pub kept : (dataset : ℕ) → has_key p dataset ≡ true → mkey c (planned p plan) (family p.tree.rows dataset) ≡ mkey c p (family p.tree.rows dataset)
 
 -- ---- the parts of a plan
 
 -- the record of each family that the present owner owns opens under this key
-abbrev pub OpensPresent : Plain → ℕ → List ℕ → Type 0
-OpensPresent p id old = (at : ℕ) → owner_of p at ≡ owner_of p id → OpensAt ciphers p old at
+abbrev pub OpensPresent : Ciphers → Plain → ℕ → List ℕ → Type 0
+OpensPresent c p id old = (at : ℕ) → owner_of p at ≡ owner_of p id → OpensAt c p old at
 
 -- a plan of a change that a kit's key and seed make
-pub record IsToldChange (p : Plain) (id : ℕ) (opts : Options) (kit : LineKit) (old : List ℕ) (plan : ChangePlan) : Type 0 where
+pub record IsToldChange (c : Ciphers) (p : Plain) (id : ℕ) (opts : Options) (kit : LineKit) (old : List ℕ) (plan : ChangePlan) : Type 0 where
   pub seed : List ℕ
   pub key : List ℕ
   pub had_seed : seed_of kit.seed ≡ Ok seed
-  pub had_key : new_key_of (at_id id p.roots) opts kit ≡ Ok key
+  pub had_key : new_key_of c (at_id id p.roots) opts kit ≡ Ok key
   pub root : plan.root ≡ id
-  pub props : plan.props ≡ Some (changed_props (at_id id p.roots) opts (changed_salt ciphers (at_id id p.roots) opts (Ok seed)))
+  pub props : plan.props ≡ Some (changed_props (at_id id p.roots) opts (changed_salt c (at_id id p.roots) opts (Ok seed)))
   pub loaded : plan.key ≡ Some key
-  pub records : plan.wrapped.items ≡ rewrapped ciphers seed old key 0 (owned (with_own_root p id opts 0) id)
+  pub records : plan.wrapped.items ≡ rewrapped c seed old key 0 (owned (with_own_root p id opts 0) id)
 
 -- a plan of an inherit that a kit's seed makes
-pub record IsToldInherit (p : Plain) (id : ℕ) (kit : LineKit) (old new : List ℕ) (plan : ChangePlan) : Type 0 where
+pub record IsToldInherit (c : Ciphers) (p : Plain) (id : ℕ) (kit : LineKit) (old new : List ℕ) (plan : ChangePlan) : Type 0 where
   pub seed : List ℕ
   pub had_seed : seed_of kit.seed ≡ Ok seed
   pub root : plan.root ≡ id
   pub props : plan.props ≡ None
   pub loaded : plan.key ≡ None
-  pub records : plan.wrapped.items ≡ rewrapped ciphers seed old new 0 (owned p id)
+  pub records : plan.wrapped.items ≡ rewrapped c seed old new 0 (owned p id)

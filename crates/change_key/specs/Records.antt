@@ -5,28 +5,26 @@ use Rattle.std.specs.declared.option.Option.TheVariants.{Some, None}
 use Rattle.std.specs.Option.{option_and_then, option_map}
 use Rattle.encryption_roots.specs.ById.{at_id}
 use Rattle.salt_rotation.specs.Places.{vector_place}
-use Rattle.salt_rotation.specs.SeedWords.{seed_bytes}
-use Rattle.key_machine.specs.Plain.{Plain, Master}
-use Rattle.key_ciphers.specs.Ciphers.{ciphers}
+use Rattle.key_machine.specs.Plain.{Plain, Master, Ciphers}
 
 -- the master key to which a family's record opens
-abbrev pub opened_in : Plain → (key : List ℕ) → ℕ → Option Master
-opened_in p key family = option_and_then (λ wrapped. ciphers.opens wrapped key) (option_map (λ stored. stored.wrapped) (at_id family p.wrapped))
+abbrev pub opened_in : Ciphers → Plain → (key : List ℕ) → ℕ → Option Master
+opened_in c p key family = option_and_then (λ wrapped. c.opens wrapped key) (option_map (λ stored. stored.wrapped) (at_id family p.wrapped))
 
-abbrev pub opens_in : Plain → (key : List ℕ) → ℕ → Bool
-opens_in p key family = is_some (opened_in p key family)
+abbrev pub opens_in : Ciphers → Plain → (key : List ℕ) → ℕ → Bool
+opens_in c p key family = is_some (opened_in c p key family)
 
 -- its record under another key
-abbrev pub sealed_from : (new vector : List ℕ) → Option Master → List ℕ
-sealed_from new vector None = []
-sealed_from new vector (Some master) = ciphers.record_of master new vector
+abbrev pub sealed_from : Ciphers → (new vector : List ℕ) → Option Master → List ℕ
+sealed_from c new vector None = []
+sealed_from c new vector (Some master) = c.record_of master new vector
 
-abbrev pub sealed_in : Plain → (old new vector : List ℕ) → ℕ → List ℕ
-sealed_in p old new vector family = sealed_from new vector (opened_in p old family)
+abbrev pub sealed_in : Ciphers → Plain → (old new vector : List ℕ) → ℕ → List ℕ
+sealed_in c p old new vector family = sealed_from c new vector (opened_in c p old family)
 
 -- that with the vector of a number
-abbrev pub anew : Plain → (seed old new : List ℕ) → (number family : ℕ) → ℕ × List ℕ
-anew p seed old new number family = (family, sealed_in p old new (seed_bytes seed (vector_place number) 12) family)
+abbrev pub anew : Ciphers → Plain → (seed old new : List ℕ) → (number family : ℕ) → ℕ × List ℕ
+anew c p seed old new number family = (family, sealed_in c p old new (c.seed_bytes seed (vector_place number) 12) family)
 
 -- what is made of each of these ids and its number, from this one on
 abbrev pub numbered : {X : Type 0} → (ℕ → ℕ → X) → ℕ → List ℕ → List X

@@ -48,8 +48,8 @@ pub fn plan_change<V: KeyView>(
     kit: &LineKit,
 ) -> Result<ChangePlan, Stop>
     requires sound { Sound ciphers (V.shows state.now) }
-    ensures reply { AnswersPlan result (stepped (V.shows state.now) (commands.Change name.now opts.now load_first) kit.now).reply }
-    ensures plan { IfOk result (λ plan. IsPlanOf (V.shows state.now) (commands.Change name.now opts.now load_first) kit.now
+    ensures reply { AnswersPlan result (stepped ciphers (V.shows state.now) (commands.Change name.now opts.now load_first) kit.now).reply }
+    ensures plan { IfOk result (λ plan. IsPlanOf ciphers (V.shows state.now) (commands.Change name.now opts.now load_first) kit.now
         (old_key ciphers (V.shows state.now) plan.root load_first kit.now.old_key) plan.key plan) }
     ensures planned { IfOk result (IsPlanned ciphers (V.shows state.now)) }
 {
@@ -133,7 +133,7 @@ fn present_key<V: KeyView>(
 ) -> Result<[u8; 32], Stop>
     requires sound { Sound ciphers (V.shows state.now) }
     requires encrypted { IsEncrypted (V.shows state.now) id }
-    ensures { Gives result (present_key (V.shows state.now) id fetched.now) }
+    ensures { Gives result (present_key ciphers (V.shows state.now) id fetched.now) }
 {
     let Some(root) = owner_of(state.tree(), state.roots(), id) else {
         unreachable!();
@@ -152,9 +152,9 @@ fn change_with<V: KeyView>(
 ) -> Result<ChangePlan, Stop>
     requires sound { Sound ciphers (V.shows state.now) }
     requires iterations { are_bad_iterations opts.now.iters ≡ false }
-    requires opens { OpensPresent (V.shows state.now) id old.now }
-    ensures plan { IfOk result (IsToldChange (V.shows state.now) id opts.now kit.now old.now) }
-    ensures fault { StopsAt result (first_fault (new_key_of (at_id id (V.shows state.now).roots) opts.now kit.now) (seed_of kit.now.seed)) }
+    requires opens { OpensPresent ciphers (V.shows state.now) id old.now }
+    ensures plan { IfOk result (IsToldChange ciphers (V.shows state.now) id opts.now kit.now old.now) }
+    ensures fault { StopsAt result (first_fault (new_key_of ciphers (at_id id (V.shows state.now).roots) opts.now kit.now) (seed_of kit.now.seed)) }
 {
     let new = match new_key(state.roots().get(id), opts, kit) {
         Ok(new) => new,

@@ -42,8 +42,8 @@ pub fn plan_inherit<V: KeyView>(
     kit: &LineKit,
 ) -> Result<ChangePlan, Stop>
     requires sound { Sound ciphers (V.shows state.now) }
-    ensures reply { AnswersPlan result (stepped (V.shows state.now) (commands.Inherit name.now load_first) kit.now).reply }
-    ensures plan { IfOk result (λ plan. IsPlanOf (V.shows state.now) (commands.Inherit name.now load_first) kit.now
+    ensures reply { AnswersPlan result (stepped ciphers (V.shows state.now) (commands.Inherit name.now load_first) kit.now).reply }
+    ensures plan { IfOk result (λ plan. IsPlanOf ciphers (V.shows state.now) (commands.Inherit name.now load_first) kit.now
         (old_key ciphers (V.shows state.now) plan.root load_first kit.now.old_key) (loaded_above (V.shows state.now) plan.root) plan) }
     ensures planned { IfOk result (IsPlanned ciphers (V.shows state.now)) }
 {
@@ -134,8 +134,8 @@ fn inherit_with<V: KeyView>(
 ) -> Result<ChangePlan, Stop>
     requires sound { Sound ciphers (V.shows state.now) }
     requires root { is_root (V.shows state.now) id ≡ true }
-    requires opens { OpensPresent (V.shows state.now) id old.now }
-    ensures plan { IfOk result (IsToldInherit (V.shows state.now) id kit.now old.now new.now) }
+    requires opens { OpensPresent ciphers (V.shows state.now) id old.now }
+    ensures plan { IfOk result (IsToldInherit ciphers (V.shows state.now) id kit.now old.now new.now) }
     ensures fault { StopsAt result (result_err (seed_of kit.now.seed)) }
 {
     let seed = match seed_got(kit.seed) {

@@ -28,8 +28,8 @@ pub(crate) struct NewKey {
 /// before one of the seed, and no key is derived before both are had.
 pub(crate) fn new_key(own: Option<&Props>, opts: &Options, kit: &LineKit) -> Result<NewKey, Stop>
     requires iterations { are_bad_iterations opts.now.iters ≡ false }
-    ensures key { IfOk result (λ new. IsNewKey (option_copied own.entry) opts.now kit.now new) }
-    ensures fault { StopsAt result (first_fault (new_key_of (option_copied own.entry) opts.now kit.now) (seed_of kit.now.seed)) }
+    ensures key { IfOk result (λ new. IsNewKey ciphers (option_copied own.entry) opts.now kit.now new) }
+    ensures fault { StopsAt result (first_fault (new_key_of ciphers (option_copied own.entry) opts.now kit.now) (seed_of kit.now.seed)) }
 {
     let format = changed_format(own, opts);
     let iters = changed_iters(own, opts);
@@ -102,7 +102,7 @@ fn kept_iters(own: Option<&Props>) -> u32
 
 /// A new salt for a passphrase, and 0 for another format.
 fn changed_salt(format: Format, seed: &SeedWords) -> u64
-    ensures { result ≡ salt_for format seed.now }
+    ensures { result ≡ salt_for ciphers format seed.now }
 {
     if is_passphrase(format) {
         seeded_salt(seed)

@@ -25,7 +25,7 @@ pub(crate) fn root_key<V: KeyView>(
 ) -> Result<[u8; 32], Stop>
     requires sound { Sound ciphers (V.shows state.now) }
     requires root { is_root (V.shows state.now) root ≡ true }
-    ensures { Gives result (root_key (V.shows state.now) root fetched.now) }
+    ensures { Gives result (root_key ciphers (V.shows state.now) root fetched.now) }
 {
     match state.loaded(root) {
         Some(key) => Ok(key),
@@ -42,7 +42,7 @@ fn fetched_root_key<V: KeyView>(
 ) -> Result<[u8; 32], Stop>
     requires sound { Sound ciphers (V.shows state.now) }
     requires root { is_root (V.shows state.now) root ≡ true }
-    ensures { Gives result (tested_key (V.shows state.now) root (fetched_old ciphers (at_id root (V.shows state.now).roots) fetched.now)) }
+    ensures { Gives result (tested_key ciphers (V.shows state.now) root (fetched_old ciphers (at_id root (V.shows state.now).roots) fetched.now)) }
 {
     let Some(props) = state.roots().get(root) else {
         unreachable!();

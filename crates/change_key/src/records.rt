@@ -1,10 +1,10 @@
 // The families of a root, and their records under another key.
 ghost use Rattle.std.specs.Prelude.{◌≡◌, ◌<◌, not, true, IfOk};
 ghost use Rattle.std.specs.List.{All, AllPairs, find};
-ghost use Rattle.std.specs.Option.{option_map};
+ghost use Rattle.std.specs.Option.{option_copied, option_map};
 ghost use Rattle.encryption_roots.specs.ById.{with_id};
 ghost use Rattle.encryption_roots.specs.Owned.{owned_families};
-ghost use Rattle.key_ciphers.specs.Ciphers.{master_of};
+ghost use Rattle.key_ciphers.specs.Ciphers.{ciphers, master_of};
 ghost use Rattle.change_key.specs.Records.{opened_in, opens_in, sealed_in, anew, numbered};
 
 use dataset_tree::{NoMemory, RecordBytes};
@@ -31,23 +31,29 @@ pub(crate) fn families_once_root<V: KeyView>(
 
 /// The first of these families whose record doesn't open under the key.
 pub(crate) fn first_wrong<V: KeyView>(state: &V, families: &[u32], key: &[u8; 32]) -> Option<u32>
-    ensures { result ≡ find (λ family. not (opens_in (V.shows state.now) key.now family)) families.now }
+    ensures { result ≡ find (λ family. not (opens_in ciphers (V.shows state.now) key.now family)) families.now }
 {
-    families
-        .iter()
-        .find(|family| !opens(state, **family, key))
-        .copied()
+    match wrong_in(state, families, key) {
+        None => None,
+        Some(family) => Some(*family),
+    }
+}
+
+fn wrong_in<'a, V: KeyView>(state: &V, families: &'a [u32], key: &[u8; 32]) -> Option<&'a u32>
+    ensures { option_copied result ≡ find (λ family. not (opens_in ciphers (V.shows state.now) key.now family)) families.now }
+{
+    families.iter().find(|family| !opens(state, **family, key))
 }
 
 fn opens<V: KeyView>(state: &V, family: u32, key: &[u8; 32]) -> bool
-    ensures { result ≡ opens_in (V.shows state.now) key.now family }
+    ensures { result ≡ opens_in ciphers (V.shows state.now) key.now family }
 {
     opened_by(state, family, key).is_some()
 }
 
 /// The master key of a family, by a key that opens its record.
 fn opened_by<V: KeyView>(state: &V, family: u32, key: &[u8; 32]) -> Option<MasterKey>
-    ensures { option_map master_of result ≡ opened_in (V.shows state.now) key.now family }
+    ensures { option_map master_of result ≡ opened_in ciphers (V.shows state.now) key.now family }
 {
     match state.wrapped(family) {
         None => None,
@@ -66,8 +72,8 @@ pub(crate) fn rewrapped<V: KeyView>(
     new: &[u8; 32],
 ) -> Result<Vec<(u32, RecordBytes)>, NoMemory>
     requires rising { AllPairs (λ earlier later. earlier < later) families.now }
-    requires opened { All (λ family. opens_in (V.shows state.now) old.now family ≡ true) families.now }
-    ensures { IfOk result (λ records. records.items ≡ numbered (anew (V.shows state.now) seed.now old.now new.now) 0 families.now) }
+    requires opened { All (λ family. opens_in ciphers (V.shows state.now) old.now family ≡ true) families.now }
+    ensures { IfOk result (λ records. records.items ≡ numbered (anew ciphers (V.shows state.now) seed.now old.now new.now) 0 families.now) }
 {
     let mut records = Vec::new(alloc);
     for (number, family) in families.iter().enumerate() {
@@ -85,8 +91,8 @@ fn sealed_anew<V: KeyView>(
     new: &[u8; 32],
     vector: [u8; 12],
 ) -> RecordBytes
-    requires { opens_in (V.shows state.now) old.now family ≡ true }
-    ensures { result ≡ sealed_in (V.shows state.now) old.now new.now vector family }
+    requires { opens_in ciphers (V.shows state.now) old.now family ≡ true }
+    ensures { result ≡ sealed_in ciphers (V.shows state.now) old.now new.now vector family }
 {
     let Some(master) = opened_by(state, family, old) else {
         unreachable!();
