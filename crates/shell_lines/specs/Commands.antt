@@ -25,7 +25,8 @@ only_name line = word_then a_name (λ name. end_as (Some (line name)))
 abbrev pub load_form : Form
 load_form =
     options_then (CheckOnly ∷ LoadFrom ∷ []) (λ settings.
-    word_then a_name (λ name. end_as (Some (LoadKey name (is_set settings CheckOnly) (load_place settings)))))
+    word_then a_name (λ name.
+    end_as (Some (LoadKey name (is_set settings CheckOnly) (load_place settings)))))
 
 -- `load-key`, `-n` and `-L LOC` or one of them or none, NAME
 abbrev pub load_key : Command

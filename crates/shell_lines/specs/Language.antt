@@ -79,9 +79,12 @@ pub record IsLocationWord (word : Option (List ℕ)) (place : Location) : Type 0
 -- an option's words behind the first one, of which it has one or none, make this setting
 abbrev pub IsSpelled : Option (List ℕ) → Setting → Type 0
 IsSpelled word (Encryption suite) = IsKeyValue word (codes "encryption") (λ value. (value ≡ suite_name suite) ⊎ ((value ≡ codes "on") × (suite ≡ Aes256Gcm)))
-IsSpelled word (KeyFormat format) = IsKeyValue word (codes "keyformat") (λ value. value ≡ format_name format)
-IsSpelled word (KeyLocation place) = IsKeyValue word (codes "keylocation") (λ value. IsLocation value place)
-IsSpelled word (Iterations count) = IsKeyValue word (codes "pbkdf2iters") (λ value. IsNumber value count)
+IsSpelled word (KeyFormat format) =
+    IsKeyValue word (codes "keyformat") (λ value. value ≡ format_name format)
+IsSpelled word (KeyLocation place) =
+    IsKeyValue word (codes "keylocation") (λ value. IsLocation value place)
+IsSpelled word (Iterations count) =
+    IsKeyValue word (codes "pbkdf2iters") (λ value. IsNumber value count)
 IsSpelled word (RecordSize size) = IsKeyValue word (codes "recordsize") (λ value. (value ≡ decimal size) × IsRecordSize size)
 IsSpelled word CheckOnly = word ≡ None
 IsSpelled word (LoadFrom place) = IsLocationWord word place

@@ -64,7 +64,8 @@ read_behind (Some value) read other = read value
 -- The number of a text of 1 to 10 decimal digits.
 
 abbrev pub decimal_of : List ℕ → Option ℕ
-decimal_of text = if list_all (λ byte. is_digit byte 10) text then Some (digits_value 10 text) else None
+decimal_of text =
+    if list_all (λ byte. is_digit byte 10) text then Some (digits_value 10 text) else None
 
 abbrev pub number_of : List ℕ → Option ℕ
 number_of text = if nat_le 1 (length text) && nat_le (length text) 10 then decimal_of text else None

@@ -3,6 +3,7 @@ ghost use Rattle.std.specs.Prelude.{◌≡◌, ◌≢◌, ℕ, ◌<◌, ◌↔�
 ghost use Rattle.std.specs.List.{All};
 ghost use lib.Chars.{codes};
 ghost use Rattle.dataset_tree.specs.declared.kinds.Format.TheVariants.{Hex, Passphrase};
+ghost use Rattle.encryption_roots.specs.Options.{no_options};
 ghost use Rattle.encryption_roots.specs.declared.props.Location.TheVariants.{Prompt, File};
 ghost use Rattle.shell_lines.specs.declared.line.Line.{Line};
 ghost use Rattle.shell_lines.specs.declared.line.Line.TheVariants.{Silent, Create, LoadKey};
@@ -27,10 +28,12 @@ pub fn bad_at_the_first_wrong_word()
 /// Values of the language: what sample options say.
 pub fn options_say_what_they_spell()
     ensures passphrase { line_of (codes "create -o pbkdf2iters=0100000 -o keylocation=prompt -o keyformat=passphrase t") 0
-        ≡ Ok (Create (codes "t") (record { suite = None; format = Some Passphrase; place = Some Prompt; iters = Some 100000; block = None })) }
+        ≡ Ok (Create (codes "t") (record no_options
+        { format = Some Passphrase; place = Some Prompt; iters = Some 100000 })) }
     ensures hex { line_of (codes "create -o keyformat=hex t") 0
-        ≡ Ok (Create (codes "t") (record { suite = None; format = Some Hex; place = None; iters = None; block = None })) }
-    ensures load { line_of (codes "load-key -L file:///k -n t") 0 ≡ Ok (LoadKey (codes "t") true (Some (File (codes "/k")))) }
+        ≡ Ok (Create (codes "t") (record no_options { format = Some Hex })) }
+    ensures load { line_of (codes "load-key -L file:///k -n t") 0
+        ≡ Ok (LoadKey (codes "t") true (Some (File (codes "/k")))) }
     ensures once { line_of (codes "load-key -n -n t") 0 ≡ Err 12 }
 {}
 

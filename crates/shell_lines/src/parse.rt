@@ -103,7 +103,8 @@ fn parse_create(alloc: Global, mut words: Words<'_>) -> Result<Line, LineStop>
 
 /// `load-key`, `-n` and `-L LOC` or one of them or none, `NAME`
 fn parse_load(alloc: Global, mut words: Words<'_>) -> Result<Line, LineStop>
-    ensures { Spells result (form_from (end_of words.entry) load_key.options load_form (words_left words.entry)) }
+    ensures { Spells result
+        (form_from (end_of words.entry) load_key.options load_form (words_left words.entry)) }
 {
     let settings = parse_options(alloc, &LOAD_OPTIONS, &mut words)?;
     let name = parse_name(alloc, &[b"-n", b"-L", b"-r", b"-a"], &mut words)?;
