@@ -2,4 +2,6 @@ pub mod Checked
 pub mod FieldLaws
 pub mod CipherLaws
 pub mod ScheduleLaws
+pub mod LaneLaws
+pub mod TowerLaws
 mod Examples
