@@ -16,7 +16,7 @@ sum_swap a b c d =
     ∙ sym (xor_assoc a c (b ⊕ d))
 
 -- a bit times a sum
-bit-mul_sum : (x c d : ℕ) → x < 2 → x * (c ⊕ d) ≡ x * c ⊕ x * d
+pub bit-mul_sum : (x c d : ℕ) → x < 2 → x * (c ⊕ d) ≡ x * c ⊕ x * d
 bit-mul_sum zero c d h = rw (zero-mul (c ⊕ d), zero-mul c, zero-mul d) refl
 bit-mul_sum (suc zero) c d h = rw (one-mul (c ⊕ d), one-mul c, one-mul d) refl
 bit-mul_sum (suc (suc x)) c d h = absurd (omega arith)
@@ -49,7 +49,7 @@ twice-sum a b =
     let whole : (a ⊕ b) * 2 + 0 ≡ 2 * (a ⊕ b) = omega arith in
     sym whole ∙ sym shifted ∙ ap (λ (x : ℕ). x ⊕ (b * 2 + 0)) left ∙ ap (λ (x : ℕ). (2 * a) ⊕ x) right
 
-bit_at-sum : (a b i : ℕ) → bit_at (a ⊕ b) i ≡ (bit_at a i) ⊕ (bit_at b i)
+pub bit_at-sum : (a b i : ℕ) → bit_at (a ⊕ b) i ≡ (bit_at a i) ⊕ (bit_at b i)
 bit_at-sum a b i = ap (λ (x : ℕ). x % 2) (xor_shr a b i) ∙ xor_mod (a / 2 ^ i) (b / 2 ^ i) 1
 
 -- ---- XTIMES

@@ -10,6 +10,7 @@ use thiserror::Error;
 
 mod gctr;
 mod ghash;
+mod product;
 #[cfg(test)]
 mod tests;
 

@@ -1,8 +1,8 @@
 use Rattle.std.proofs.Common.{◌≡◌, arith, refl, sym, ◌∙◌}
 use Rattle.gcm_seal.specs.Gcm.{z_at, v_at, product}
-use Rattle.gcm_seal.proofs.Product.{z_at_add, z_at_keep, v_at_even, v_at_odd}
-use Rattle.gcm_seal.proofs.ghash.multiply.Goals as goal
-use Rattle.gcm_seal.proofs.ghash.multiply.Goals.{then-x-i-eq1, else-x-i-eq1, then-v-eq0, else-v-eq0}
+use Rattle.gcm_seal.proofs.StepLaws.{z_at_add, z_at_keep, v_at_even, v_at_odd}
+use Rattle.gcm_seal.proofs.product.multiply_by_steps.Goals as goal
+use Rattle.gcm_seal.proofs.product.multiply_by_steps.Goals.{then-x-i-eq1, else-x-i-eq1, then-v-eq0, else-v-eq0}
 
 pub loop-i-init : goal.loop-i-init
 unfolding z_at v_at
