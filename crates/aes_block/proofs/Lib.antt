@@ -4,4 +4,5 @@ pub mod CipherLaws
 pub mod ScheduleLaws
 pub mod LaneLaws
 pub mod TowerLaws
+pub mod TableLaws
 mod Examples

@@ -1,7 +1,9 @@
 -- Vectors of 32 bytes by their lanes, and the S-box of a byte by look-ups of its halves: the byte is
 -- written in the basis of a tower of fields, GF(2^4) and above it GF(2^8), where an inverse takes four
 -- inverses of halves.
-use Rattle.std.specs.Prelude.{◌≡◌, ℕ, ◌*◌, ◌/◌, ◌%◌, ◌<◌, List, [], ◌∷◌, length, Bool, true, ◌||◌, nat_le, nat_lt, if◌then◌else◌, slice_index, bit_xor}
+use Rattle.aes_block.specs.Field.{◌⊕◌, ◌•◌}
+use Rattle.aes_block.specs.Cipher.{sbox, word_of}
+use Rattle.std.specs.Prelude.{◌≡◌, ℕ, ◌+◌, ◌*◌, ◌/◌, ◌%◌, ◌<◌, List, [], ◌∷◌, length, Bool, true, ◌||◌, nat_le, nat_lt, if◌then◌else◌, slice_index, bit_xor}
 
 -- v has 32 lanes, and lane i holds `lane i`
 pub record HasLanes (v : List ℕ) (lane : ℕ → ℕ) : Type 0 where
@@ -52,3 +54,9 @@ second_place y = bit_xor (looked inverses (second_sum y)) (y / 16)
 -- the sum of what two tables hold at a byte's two places
 abbrev pub at_places : List ℕ → List ℕ → ℕ → ℕ
 at_places t u y = bit_xor (looked t (first_place y)) (looked u (second_place y))
+
+-- a column of MIXCOLUMNS from the bytes before SUBBYTES
+unfoldable pub mixed_column : List ℕ → List ℕ
+mixed_column a = word_of (λ r.
+    0x02 • sbox (slice_index a r) ⊕ 0x03 • sbox (slice_index a ((r + 1) % 4))
+    ⊕ sbox (slice_index a ((r + 2) % 4)) ⊕ sbox (slice_index a ((r + 3) % 4)))

@@ -1,7 +1,7 @@
 //! The block cipher AES (FIPS 197) for keys of 128, 192 and 256 bits.
 #![tactic(auto)]
 
-ghost use Rattle.std.specs.Prelude.{◌≡◌, ℕ, ◌<◌, ◌*◌, ◌/◌, ◌%◌, List, drop, length, slice_index, take};
+ghost use Rattle.std.specs.Prelude.{◌≡◌, ℕ, ◌<◌, ◌+◌, ◌*◌, ◌^◌, ◌/◌, ◌%◌, List, drop, length, slice_index, take};
 ghost use Rattle.aes_block.specs.Field.{◌⊕◌};
 ghost use Rattle.aes_block.specs.Cipher.{IsKeySize, aes};
 ghost use Rattle.aes_block.specs.Lanes.{HasLanes, tower};
@@ -10,6 +10,7 @@ use crate::field::xtimes;
 use crate::lanes::{CONSTANT, last_round, round, round_words, side_by_side, sum, tower, towers};
 use crate::schedule::{next_word, put_word};
 use crate::state::{add_round_key, mix_columns, shift_rows, sub_bytes};
+use crate::tables::{counted_round, counted_sub_bytes};
 use std::marker::Model;
 use std::simd::prelude::*;
 
@@ -17,6 +18,7 @@ mod field;
 mod lanes;
 mod schedule;
 mod state;
+mod tables;
 
 // What the number of rounds has above the number of words in the key (Table 3).
 const EXTRA_ROUNDS: usize = 6;
@@ -120,6 +122,23 @@ impl<const NK: usize> Aes<NK> {
             state = round(state, round_words(&self.tower_words, number));
         }
         last_round(state, round_words(&self.words, rounds))
+    }
+
+    /// Does the same as `encrypt_block` by tables, and adds the number of its look-ups to `looks`:
+    /// sixteen a round.
+    pub fn encrypt_counted(&self, block: &mut [u8; 16], looks: &mut u64)
+        requires room { looks.old < 2 ^ 63 }
+        ensures encrypted { block.new ≡ aes self.now block.old }
+        ensures counted { looks.new ≡ looks.old + 16 * (NK + 6) }
+    {
+        add_round_key(block, &self.words, 0);
+        let rounds = NK + EXTRA_ROUNDS;
+        'rounds: for round in 1..rounds {
+            counted_round(block, &self.words, round, looks);
+        }
+        counted_sub_bytes(block, looks);
+        shift_rows(block);
+        add_round_key(block, &self.words, rounds);
     }
 
     /// Encrypts `block` in place step by step as the standard writes it: the slow cipher that the

@@ -65,3 +65,13 @@ fn eight_blocks_are_as_by_steps(rt: HostRuntime) -> Result<(), Fail> {
     }
     Ok(())
 }
+
+#[test]
+fn look_ups_are_counted(rt: HostRuntime) -> Result<(), Fail> {
+    let mut looks = 5;
+    let mut block = BLOCK;
+    Aes::<4>::expand(&KEY[..16]).encrypt_counted(&mut block, &mut looks);
+    assert_eq!(rt; block[0], 0x69);
+    assert_eq!(rt; looks, 165);
+    Ok(())
+}
