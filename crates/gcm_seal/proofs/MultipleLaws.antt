@@ -46,18 +46,18 @@ times_x_odd v h = v_at_odd v 0 h
 
 -- ---- one byte more
 
--- the first bytes of x, and the next one
-front_more : (x m : ℕ) → (x / 2 ^ (m + 8) * 2 ^ (m + 8)) ⊕ (x / 2 ^ m % 256 * 2 ^ m) ≡ x / 2 ^ m * 2 ^ m
-front_more x m =
+-- the first digits of x, each of w bits, and the next one
+front_more : (x m w : ℕ) → (x / 2 ^ (m + w) * 2 ^ (m + w)) ⊕ (x / 2 ^ m % 2 ^ w * 2 ^ m) ≡ x / 2 ^ m * 2 ^ m
+front_more x m w =
     let q = x / 2 ^ m in
-    let high : x / 2 ^ (m + 8) ≡ q / 2 ^ 8 = sym (shr-shr x m 8) in
-    let turned : m + 8 ≡ 8 + m = omega arith in
-    let power : 2 ^ (m + 8) ≡ 2 ^ 8 * 2 ^ m = ap (λ (j : ℕ). 2 ^ j) turned ∙ pow-add 2 8 m in
-    let moved : x / 2 ^ (m + 8) * 2 ^ (m + 8) ≡ q / 2 ^ 8 * 2 ^ 8 * 2 ^ m =
-    ap (λ (y : ℕ). y * 2 ^ (m + 8)) high ∙ ap (λ (p : ℕ). q / 2 ^ 8 * p) power ∙ sym (mul_assoc (q / 2 ^ 8) (2 ^ 8) (2 ^ m)) in
-    let low : q % 2 ^ 8 < 2 ^ 8 = omega arith in
-    let joined : (q / 2 ^ 8 * 2 ^ 8) ⊕ (q % 2 ^ 8) ≡ q = xor_shifted (q / 2 ^ 8) 8 (q % 2 ^ 8) low ∙ shr_split q 8 in
-    ap (λ (y : ℕ). y ⊕ (q % 2 ^ 8 * 2 ^ m)) moved ∙ sym (sum-shifted (q / 2 ^ 8 * 2 ^ 8) (q % 2 ^ 8) m) ∙ ap (λ (y : ℕ). y * 2 ^ m) joined
+    let high : x / 2 ^ (m + w) ≡ q / 2 ^ w = sym (shr-shr x m w) in
+    let turned : m + w ≡ w + m = omega arith in
+    let power : 2 ^ (m + w) ≡ 2 ^ w * 2 ^ m = ap (λ (j : ℕ). 2 ^ j) turned ∙ pow-add 2 w m in
+    let moved : x / 2 ^ (m + w) * 2 ^ (m + w) ≡ q / 2 ^ w * 2 ^ w * 2 ^ m =
+    ap (λ (y : ℕ). y * 2 ^ (m + w)) high ∙ ap (λ (p : ℕ). q / 2 ^ w * p) power ∙ sym (mul_assoc (q / 2 ^ w) (2 ^ w) (2 ^ m)) in
+    let low : q % 2 ^ w < 2 ^ w = mod_below q (2 ^ w) (pow_pos w) in
+    let joined : (q / 2 ^ w * 2 ^ w) ⊕ (q % 2 ^ w) ≡ q = xor_shifted (q / 2 ^ w) w (q % 2 ^ w) low ∙ shr_split q w in
+    ap (λ (y : ℕ). y ⊕ (q % 2 ^ w * 2 ^ m)) moved ∙ sym (sum-shifted (q / 2 ^ w * 2 ^ w) (q % 2 ^ w) m) ∙ ap (λ (y : ℕ). y * 2 ^ m) joined
 
 -- a shift to the left that drops what does not fit
 shifted_out : (t a b : ℕ) → a + b ≡ 128 → t * 2 ^ a % 2 ^ 128 ≡ t % 2 ^ b * 2 ^ a
@@ -73,32 +73,51 @@ shifted_out t a b whole =
     (mul_assoc q (2 ^ b) (2 ^ a) ∙ ap (λ (p : ℕ). q * p) (sym (pow-add 2 b a) ∙ ap (λ (j : ℕ). 2 ^ j) turned)) in
     ap (λ (y : ℕ). y % 2 ^ 128) split ∙ mod_low q 128 (r * 2 ^ a) small
 
+-- the digit above bit m of x, which stands n bits from the first one
+digit_added : (x h front back t m n w : ℕ) → m + n + w ≡ 128 → t ≡ product (x / 2 ^ m % 2 ^ w * 2 ^ (m + n)) h
+    → wide_value front back ≡ product (x / 2 ^ (m + w) * 2 ^ (m + w)) h
+    → wide_value (front ⊕ t / 2 ^ n) (back ⊕ t * 2 ^ (m + w) % 2 ^ 128) ≡ product (x / 2 ^ m * 2 ^ m) h
+digit_added x h front back t m n w all e held =
+    let digit = x / 2 ^ m % 2 ^ w in
+    let whole : m + w + n ≡ 128 = omega arith in
+    let rest : 128 - n ≡ m + w = omega arith in
+    let reach : w + (m + n) ≡ 128 = omega arith in
+    let low : digit < 2 ^ w = mod_below (x / 2 ^ m) (2 ^ w) (pow_pos w) in
+    let power : digit * 2 ^ (m + n) ≡ digit * 2 ^ m * 2 ^ n = ap (λ (p : ℕ). digit * p) (pow-add 2 m n) ∙ sym (mul_assoc digit (2 ^ m) (2 ^ n)) in
+    let small : digit * 2 ^ m * 2 ^ n < 2 ^ 128 = rw (reach, power) at (shl_below digit w (m + n) low) in
+    let shifted : wide_value (t / 2 ^ n) (t % 2 ^ n * 2 ^ (128 - n)) ≡ product (digit * 2 ^ m) h =
+    sym (v_at-wide t n (omega arith)) ∙ ap (λ (v : ℕ). v_at v n) (e ∙ ap (λ (y : ℕ). product y h) power) ∙ product-shift n (digit * 2 ^ m) h small in
+    let out : t * 2 ^ (m + w) % 2 ^ 128 ≡ t % 2 ^ n * 2 ^ (128 - n) =
+    shifted_out t (m + w) n whole ∙ ap (λ (j : ℕ). t % 2 ^ n * 2 ^ j) (sym rest) in
+    ap (λ (y : ℕ). wide_value (front ⊕ t / 2 ^ n) (back ⊕ y)) out
+    ∙ ap (λ (y : ℕ). (front ⊕ t / 2 ^ n) ⊕ y) (product-left r_block back (t % 2 ^ n * 2 ^ (128 - n)))
+    ∙ sum_swap front (t / 2 ^ n) (product back r_block) (product (t % 2 ^ n * 2 ^ (128 - n)) r_block)
+    ∙ ap (λ (y : ℕ). y ⊕ wide_value (t / 2 ^ n) (t % 2 ^ n * 2 ^ (128 - n))) held
+    ∙ ap (λ (y : ℕ). product (x / 2 ^ (m + w) * 2 ^ (m + w)) h ⊕ y) shifted
+    ∙ sym (product-left h (x / 2 ^ (m + w) * 2 ^ (m + w)) (digit * 2 ^ m)) ∙ ap (λ (y : ℕ). product y h) (front_more x m w)
+
+-- the same of a byte, and of half a byte, as the code writes it
 pub multiple_added : (x h front back t k : ℕ) → 1 ≤ k → k ≤ 15 → t ≡ product (bit_and (x / 2 ^ (120 - 8 * k)) 255 * 2 ^ 120) h
     → wide_value front back ≡ product (x / 2 ^ (128 - 8 * k) * 2 ^ (128 - 8 * k)) h
     → wide_value (front ⊕ t / 2 ^ (8 * k)) (back ⊕ t * 2 ^ (128 - 8 * k) % 2 ^ 128) ≡ product (x / 2 ^ (120 - 8 * k) * 2 ^ (120 - 8 * k)) h
 multiple_added x h front back t k from below e held =
     let m = 120 - 8 * k in
-    let n = 8 * k in
-    let byte = x / 2 ^ m % 256 in
     let high : 128 - 8 * k ≡ m + 8 = omega arith in
-    let whole : 128 - 8 * k + n ≡ 128 = omega arith in
-    let reach : m + n ≡ 120 = omega arith in
-    let low : byte < 2 ^ 8 = omega arith in
-    let power : byte * 2 ^ 120 ≡ byte * 2 ^ m * 2 ^ n =
-    ap (λ (j : ℕ). byte * 2 ^ j) (sym reach) ∙ ap (λ (p : ℕ). byte * p) (pow-add 2 m n) ∙ sym (mul_assoc byte (2 ^ m) (2 ^ n)) in
-    let small : byte * 2 ^ m * 2 ^ n < 2 ^ 128 = rw power at (shl_below byte 8 120 low) in
-    let is_t : t ≡ product (byte * 2 ^ m * 2 ^ n) h =
-    e ∙ ap (λ (y : ℕ). product (y * 2 ^ 120) h) (and_mask (x / 2 ^ m) 8) ∙ ap (λ (y : ℕ). product y h) power in
-    let shifted : wide_value (t / 2 ^ n) (t % 2 ^ n * 2 ^ (128 - n)) ≡ product (byte * 2 ^ m) h =
-    sym (v_at-wide t n (omega arith)) ∙ ap (λ (v : ℕ). v_at v n) is_t ∙ product-shift n (byte * 2 ^ m) h small in
-    let out : t * 2 ^ (128 - 8 * k) % 2 ^ 128 ≡ t % 2 ^ n * 2 ^ (128 - n) = shifted_out t (128 - 8 * k) n whole in
-    let kept : x / 2 ^ (128 - 8 * k) * 2 ^ (128 - 8 * k) ≡ x / 2 ^ (m + 8) * 2 ^ (m + 8) = ap (λ (j : ℕ). x / 2 ^ j * 2 ^ j) high in
-    ap (λ (y : ℕ). wide_value (front ⊕ t / 2 ^ n) (back ⊕ y)) out
-    ∙ ap (λ (y : ℕ). (front ⊕ t / 2 ^ n) ⊕ y) (product-left r_block back (t % 2 ^ n * 2 ^ (128 - n)))
-    ∙ sum_swap front (t / 2 ^ n) (product back r_block) (product (t % 2 ^ n * 2 ^ (128 - n)) r_block)
-    ∙ ap (λ (y : ℕ). y ⊕ wide_value (t / 2 ^ n) (t % 2 ^ n * 2 ^ (128 - n))) (held ∙ ap (λ (y : ℕ). product y h) kept)
-    ∙ ap (λ (y : ℕ). product (x / 2 ^ (m + 8) * 2 ^ (m + 8)) h ⊕ y) shifted
-    ∙ sym (product-left h (x / 2 ^ (m + 8) * 2 ^ (m + 8)) (byte * 2 ^ m)) ∙ ap (λ (y : ℕ). product y h) (front_more x m)
+    let reach : 120 ≡ m + 8 * k = omega arith in
+    let is_t = e ∙ ap (λ (y : ℕ). product (y * 2 ^ 120) h) (and_mask (x / 2 ^ m) 8) ∙ ap (λ (j : ℕ). product (x / 2 ^ m % 2 ^ 8 * 2 ^ j) h) reach in
+    ap (λ (j : ℕ). wide_value (front ⊕ t / 2 ^ (8 * k)) (back ⊕ t * 2 ^ j % 2 ^ 128)) high
+    ∙ digit_added x h front back t m (8 * k) 8 (omega arith) is_t (held ∙ ap (λ (j : ℕ). product (x / 2 ^ j * 2 ^ j) h) high)
+
+pub half_byte_added : (x h front back t k : ℕ) → 1 ≤ k → k ≤ 31 → t ≡ product (bit_and (x / 2 ^ (124 - 4 * k)) 15 * 2 ^ 124) h
+    → wide_value front back ≡ product (x / 2 ^ (128 - 4 * k) * 2 ^ (128 - 4 * k)) h
+    → wide_value (front ⊕ t / 2 ^ (4 * k)) (back ⊕ t * 2 ^ (128 - 4 * k) % 2 ^ 128) ≡ product (x / 2 ^ (124 - 4 * k) * 2 ^ (124 - 4 * k)) h
+half_byte_added x h front back t k from below e held =
+    let m = 124 - 4 * k in
+    let high : 128 - 4 * k ≡ m + 4 = omega arith in
+    let reach : 124 ≡ m + 4 * k = omega arith in
+    let is_t = e ∙ ap (λ (y : ℕ). product (y * 2 ^ 124) h) (and_mask (x / 2 ^ m) 4) ∙ ap (λ (j : ℕ). product (x / 2 ^ m % 2 ^ 4 * 2 ^ j) h) reach in
+    ap (λ (j : ℕ). wide_value (front ⊕ t / 2 ^ (4 * k)) (back ⊕ t * 2 ^ j % 2 ^ 128)) high
+    ∙ digit_added x h front back t m (4 * k) 4 (omega arith) is_t (held ∙ ap (λ (j : ℕ). product (x / 2 ^ j * 2 ^ j) h) high)
 
 pub wide_of_front : (front : ℕ) → wide_value front 0 ≡ front
 wide_of_front front = ap (λ (y : ℕ). front ⊕ y) (product-zero r_block) ∙ xor_zero_r front

@@ -183,6 +183,9 @@ product_top : (y : ℕ) → product (2 ^ 127) y ≡ 0 ⊕ y
 unfolding product z_at v_at
 product_top y = refl
 
+pub product_eight : (y : ℕ) → product (8 * 2 ^ 124) y ≡ y
+product_eight y = product_top y ∙ xor_comm 0 y ∙ xor_zero_r y
+
 pub product_of_power : (i y : ℕ) → i < 128 → product (2 ^ i) y ≡ v_at y (127 - i)
 product_of_power i y h =
     let whole : i + (127 - i) ≡ 127 = omega arith in

@@ -37,8 +37,21 @@ fn padded_number(part: &[u8]) -> u128
     requires { length part.now ≤ 16 }
     ensures { result ≡ number_of (part.now ++ replicate (16 - length part.now) 0) }
 {
+    if part.len() == BLOCK_LEN {
+        return whole_number(part);
+    }
     let mut block = [0; 16];
     block[..part.len()].copy_from_slice(part);
+    u128::from_be_bytes(block)
+}
+
+// A whole block, whose known length makes its copy two moves.
+fn whole_number(part: &[u8]) -> u128
+    requires { length part.now ≡ 16 }
+    ensures { result ≡ number_of part.now }
+{
+    let mut block = [0; 16];
+    block.copy_from_slice(part);
     u128::from_be_bytes(block)
 }
 

@@ -6,6 +6,7 @@ ghost use Rattle.std.specs.Prelude.{◌≡◌, ◌≤◌, ◌↔◌, length, Som
 ghost use Rattle.gcm_seal.specs.Gcm.{IsKeyLength, gcm_seal, gcm_open, gcm_tag, inc32, j0};
 
 use aes_block::Aes;
+pub use crate::product::{GhashTable, product_laws};
 use thiserror::Error;
 
 mod gctr;

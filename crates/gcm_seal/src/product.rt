@@ -5,6 +5,8 @@ ghost use Rattle.std.specs.Prelude.{◌≡◌, ◌≤◌, ◌<◌, ◌+◌, ◌-
 ghost use Rattle.gcm_seal.specs.Gcm.{product, r_block, v_at};
 ghost use Rattle.gcm_seal.specs.Multiples.{HasMultiples, wide_value};
 
+use std::marker::Model;
+
 // The bits 11100001, and 120 zeros: x^128 in GF(2^128).
 const R: u128 = 0xe1 << 120;
 
@@ -130,4 +132,67 @@ fn reduced(back: u128) -> u128
     let near = back ^ (back >> 1) ^ (back >> 2) ^ (back >> 7);
     let far = (back << 127) ^ (back << 126) ^ (back << 121);
     near ^ far ^ (far >> 1) ^ (far >> 2) ^ (far >> 7)
+}
+
+/// The product of blocks keeps sums in each factor, a power of x goes through it, and the block of
+/// x^0 is its one. The product of the second block of the standard's second test case is the
+/// example (SP 800-38D, 6.3).
+pub fn product_laws()
+    ensures left { (a b y : ℕ) → product (bit_xor a b) y ≡ bit_xor (product a y) (product b y) }
+    ensures right { (x a b : ℕ) → product x (bit_xor a b) ≡ bit_xor (product x a) (product x b) }
+    ensures powers { (x y k : ℕ) → product x (v_at y k) ≡ v_at (product x y) k }
+    ensures shift { (n a y : ℕ) → a * 2 ^ n < 2 ^ 128 → v_at (product (a * 2 ^ n) y) n ≡ product a y }
+    ensures one { (x : ℕ) → x < 2 ^ 128 → product x (2 ^ 127) ≡ x }
+    ensures example { product 0x0388dace60b6a392f328c2b971b2fe78 0x66e94bd4ef8a2c3b884cfa59ca342b2e
+        ≡ 0x5e2ec746917062882c85b0685353deb7 }
+{
+}
+
+/// The multiples of a block by the polynomials of a degree below 4. Contracts see the block.
+#[derive(Drop)]
+pub struct GhashTable {
+    multiples: [u128; 16],
+}
+
+impl Model for GhashTable {
+    ghost use Rattle.std.specs.Prelude.{◌≡◌, ℕ, ◌*◌, ◌^◌, ◌<◌, slice_index};
+    ghost use Rattle.gcm_seal.specs.Gcm.{product};
+
+    ghost Value = { ℕ };
+
+    ghost view = { λ t. slice_index t.multiples 8 };
+
+    ghost invariant = { λ t. (n : ℕ) → n < 16
+        → slice_index t.multiples n ≡ product (n * 2 ^ 124) (slice_index t.multiples 8) };
+}
+
+impl GhashTable {
+    /// The table of `h`.
+    pub fn new(h: u128) -> GhashTable
+        ensures { result ≡ h }
+    {
+        let mut multiples = [0; 16];
+        for n in 0..16 {
+            multiples[n] = multiply_by_steps((n as u128) << 124, h);
+        }
+        GhashTable { multiples }
+    }
+
+    /// The product of `x` and the table's block, by thirty-two look-ups, which are added to `looks`.
+    pub fn mul_counted(&self, x: u128, looks: &mut u64) -> u128
+        requires room { looks.old < 2 ^ 63 }
+        ensures product { result ≡ product x self.now }
+        ensures counted { looks.new ≡ looks.old + 32 }
+    {
+        let mut front = self.multiples[(x >> 124) as usize];
+        let mut back = 0;
+        *looks += 1;
+        for k in 1..32u32 {
+            let multiple = self.multiples[(x >> (124 - 4 * k) & 0xf) as usize];
+            front ^= multiple >> (4 * k);
+            back ^= multiple << (128 - 4 * k);
+            *looks += 1;
+        }
+        front ^ reduced(back)
+    }
 }

@@ -91,6 +91,9 @@ fn products_of_blocks(rt: HostRuntime) {
     let expected = 0x5e2e_c746_9170_6288_2c85_b068_5353_deb7;
     assert_eq!(rt; product::multiply_by_steps(x, h), expected);
     assert_eq!(rt; product::multiply(x, &product::multiples(h)), expected);
+    let mut looks = 5;
+    assert_eq!(rt; GhashTable::new(h).mul_counted(x, &mut looks), expected);
+    assert_eq!(rt; looks, 37);
 }
 
 #[test]
