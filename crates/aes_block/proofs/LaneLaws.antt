@@ -1,5 +1,5 @@
 -- What the operations on vectors hold at each lane.
-use Rattle.std.proofs.Common.{◌≡◌, ℕ, ◌+◌, ◌-◌, ◌*◌, ◌/◌, ◌%◌, ◌<◌, ◌≤◌, ◌++◌, take, drop, length-append, length-drop, length-take, inl, inr, Bool, true, false, T, ◌||◌, List, length, get_or, map, slice_index, replicate, nat_le, nat_lt, if◌then◌else◌, refl, sym, ap, ◌∙◌, subst, arith, w8, Fits, zero-add}
+use Rattle.std.proofs.Common.{◌≡◌, ℕ, ◌+◌, ◌-◌, ◌*◌, ◌/◌, ◌%◌, ◌<◌, ◌≤◌, ◌++◌, take, drop, length-append, length-drop, length-take, inl, inr, Bool, true, false, T, List, length, map, slice_index, replicate, nat_le, if◌then◌else◌, refl, sym, ap, ◌∙◌, subst, arith, w8, Fits, zero-add}
 use Rattle.std.proofs.lemmas.Bool.Decides.{nat_tests}
 use Rattle.std.proofs.lemmas.Bool.{cases_lt}
 use Rattle.std.proofs.lemmas.List.{get_or_append_left, get_or-append_right, get_or-take, get_or-drop, get_or_past, length-take-le}
@@ -56,10 +56,10 @@ lanes_looked_up t table js lanes long places = record {
       let j = slice_index js i in
       get_or-swz_l w8 16 t 0 js i (omega arith)
       ∙ pick (nat_le 128 j) 0 (slice_index t (16 * ((0 + i) / 16) + j)) (slice_index table j)
-        (λ none.
-        let below : j < 16 = place-below j (places i h) none in
-        let place : (16 * ((0 + i) / 16) + j) % 16 ≡ j = omega arith in
-        lanes.each (16 * ((0 + i) / 16) + j) (omega arith) ∙ ap (slice_index table) place);
+      (λ none.
+      let below : j < 16 = place-below j (places i h) none in
+      let place : (16 * ((0 + i) / 16) + j) % 16 ≡ j = omega arith in
+      lanes.each (16 * ((0 + i) / 16) + j) (omega arith) ∙ ap (slice_index table) place);
 }
 
 -- ---- bytes moved within each block

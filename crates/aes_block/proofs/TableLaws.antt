@@ -1,5 +1,5 @@
 -- The table of columns, byte by byte.
-use Rattle.std.proofs.Common.{◌≡◌, ℕ, ◌<◌, List, [], ◌∷◌, length, slice_index, w32, refl, sym, ap, ◌∙◌, arith}
+use Rattle.std.proofs.Common.{◌≡◌, ℕ, ◌<◌, [], ◌∷◌, slice_index, w32, refl, sym, ap, ◌∙◌}
 use Rattle.std.specs.Int.{to_be_bytes}
 use Rattle.aes_block.specs.Field.{◌⊕◌, ◌•◌, xtimes}
 use Rattle.aes_block.specs.Cipher.{sbox}

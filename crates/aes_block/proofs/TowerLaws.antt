@@ -1,7 +1,7 @@
 -- The S-box in the tower's basis, and a round's bytes.
 use Rattle.std.proofs.Common.{◌≡◌, ℕ, zero, suc, ◌+◌, ◌*◌, ◌/◌, ◌%◌, ◌<◌, Bool, true, false, List, [], ◌∷◌, slice_index, bit_and, bit_xor, refl, sym, ap, ◌∙◌, arith}
 use Rattle.std.specs.Int.Bits.{xor_assoc, xor_comm, xor_self, xor_zero_r}
-use Rattle.aes_block.specs.Field.{◌⊕◌, ◌•◌, inverse, sum_of_multiples, xtimes}
+use Rattle.aes_block.specs.Field.{◌⊕◌, ◌•◌, sum_of_multiples, xtimes}
 use Rattle.aes_block.specs.Cipher.{add_round_key, affine, at, byte_of_word, mix_columns, sbox, shift_rows, state_of, sub_bytes}
 use Rattle.aes_block.specs.Lanes.{at_places, first_place, first_sum, halves_sum, is_place, looked, second_place, second_sum, sum_by_bits, tower}
 use Rattle.aes_block.specs.declared.field.TheConstants.{SBOX}

@@ -3,7 +3,7 @@
 -- inverses of halves.
 use Rattle.aes_block.specs.Field.{◌⊕◌, ◌•◌}
 use Rattle.aes_block.specs.Cipher.{sbox, word_of}
-use Rattle.std.specs.Prelude.{◌≡◌, ℕ, ◌+◌, ◌*◌, ◌/◌, ◌%◌, ◌<◌, List, [], ◌∷◌, length, Bool, true, ◌||◌, nat_le, nat_lt, if◌then◌else◌, slice_index, bit_xor}
+use Rattle.std.specs.Prelude.{◌≡◌, ℕ, ◌+◌, ◌*◌, ◌/◌, ◌%◌, ◌<◌, List, [], ◌∷◌, length, Bool, ◌||◌, nat_le, nat_lt, if◌then◌else◌, slice_index, bit_xor}
 
 -- v has 32 lanes, and lane i holds `lane i`
 pub record HasLanes (v : List ℕ) (lane : ℕ → ℕ) : Type 0 where

@@ -134,14 +134,20 @@ fn halves_sums(v: u8x32) -> u8x32
 fn first_sums(v: u8x32) -> u8x32
     ensures { HasLanes result (λ i. first_sum (slice_index v i)) }
 {
-    sum(look_up(&INVERSES, high_halves(v)), look_up(&INVERSE_MULTIPLES, low_halves(v)))
+    sum(
+        look_up(&INVERSES, high_halves(v)),
+        look_up(&INVERSE_MULTIPLES, low_halves(v)),
+    )
 }
 
 #[inline(always)]
 fn second_sums(v: u8x32) -> u8x32
     ensures { HasLanes result (λ i. second_sum (slice_index v i)) }
 {
-    sum(look_up(&INVERSES, halves_sums(v)), look_up(&INVERSE_MULTIPLES, low_halves(v)))
+    sum(
+        look_up(&INVERSES, halves_sums(v)),
+        look_up(&INVERSE_MULTIPLES, low_halves(v)),
+    )
 }
 
 #[inline(always)]
@@ -162,7 +168,10 @@ fn second_places(v: u8x32) -> u8x32
 fn by_places(first: &[u8; 16], second: &[u8; 16], v: u8x32) -> u8x32
     ensures { HasLanes result (λ i. at_places first.now second.now (slice_index v i)) }
 {
-    sum(look_up(first, first_places(v)), look_up(second, second_places(v)))
+    sum(
+        look_up(first, first_places(v)),
+        look_up(second, second_places(v)),
+    )
 }
 
 // A byte in the tower's basis.
@@ -177,7 +186,10 @@ pub(crate) fn tower(b: u8) -> u8
 pub(crate) fn towers(v: u8x32) -> u8x32
     ensures { HasLanes result (λ i. tower (slice_index v i)) }
 {
-    sum(look_up(&TOWER_OF_LOW, low_halves(v)), look_up(&TOWER_OF_HIGH, high_halves(v)))
+    sum(
+        look_up(&TOWER_OF_LOW, low_halves(v)),
+        look_up(&TOWER_OF_HIGH, high_halves(v)),
+    )
 }
 
 // A round with mixed columns, in the tower's basis, whose words have the affine map's constant added.
@@ -186,7 +198,7 @@ pub(crate) fn round(v: u8x32, words: u8x32) -> u8x32
     ensures { (s : ℕ → List ℕ) → ((b k : ℕ) → slice_index (s b) k < 256)
         → HasLanes v (λ i. tower (slice_index (s (i / 16)) (i % 16)))
         → HasLanes result (λ i. tower (slice_index (mix_columns (shift_rows (sub_bytes (s (i / 16))))) (i % 16)
-            ⊕ 0x63) ⊕ slice_index words i) }
+        ⊕ 0x63) ⊕ slice_index words i) }
 {
     let once = by_places(&ONCE_FIRST, &ONCE_SECOND, v);
     let twice = by_places(&TWICE_FIRST, &TWICE_SECOND, v);
@@ -207,7 +219,7 @@ pub(crate) fn last_round(v: u8x32, words: u8x32) -> u8x32
     ensures { (s : ℕ → List ℕ) → ((b k : ℕ) → slice_index (s b) k < 256)
         → HasLanes v (λ i. tower (slice_index (s (i / 16)) (i % 16)))
         → HasLanes result (λ i. slice_index (shift_rows (sub_bytes (s (i / 16)))) (i % 16)
-            ⊕ slice_index words i) }
+        ⊕ slice_index words i) }
 {
     let looked_up = by_places(&SBOX_FIRST, &SBOX_SECOND, v);
     let substituted = sum(looked_up, u8x32::splat(CONSTANT));

@@ -11,6 +11,7 @@ use crate::lanes::{CONSTANT, last_round, round, round_words, side_by_side, sum, 
 use crate::schedule::{next_word, put_word};
 use crate::state::{add_round_key, mix_columns, shift_rows, sub_bytes};
 use crate::tables::{counted_round, counted_sub_bytes};
+pub use crate::vectors::aes_gives_the_examples;
 use std::marker::Model;
 use std::simd::prelude::*;
 
@@ -19,6 +20,7 @@ mod lanes;
 mod schedule;
 mod state;
 mod tables;
+mod vectors;
 
 // What the number of rounds has above the number of words in the key (Table 3).
 const EXTRA_ROUNDS: usize = 6;

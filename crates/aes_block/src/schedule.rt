@@ -18,7 +18,12 @@ fn rot_word(a: [u8; 4]) -> [u8; 4]
 fn sub_word(a: [u8; 4]) -> [u8; 4]
     ensures { result ≡ sub_word a }
 {
-    [sbox_by_table(a[0]), sbox_by_table(a[1]), sbox_by_table(a[2]), sbox_by_table(a[3])]
+    [
+        sbox_by_table(a[0]),
+        sbox_by_table(a[1]),
+        sbox_by_table(a[2]),
+        sbox_by_table(a[3]),
+    ]
 }
 
 fn add_words(a: [u8; 4], b: [u8; 4]) -> [u8; 4]

@@ -218,9 +218,9 @@ v_at-low r n h within =
     let small : u < 2 ^ 128 = rw whole at (shl_below r n (128 - n) h) in
     let less = le-shifted r (128 - n) in
     sym (
-      ap (product u) (sym r_is_power) ∙ product-times u (2 ^ 127) 128
-      ∙ ap (v_at (product u (2 ^ 127))) (sym turned) ∙ sym (v_at-add (product u (2 ^ 127)) (128 - n) n)
-      ∙ ap (λ (v : ℕ). v_at v n) (product-shift (128 - n) r (2 ^ 127) small ∙ product_one r (omega arith))
+    ap (product u) (sym r_is_power) ∙ product-times u (2 ^ 127) 128
+    ∙ ap (v_at (product u (2 ^ 127))) (sym turned) ∙ sym (v_at-add (product u (2 ^ 127)) (128 - n) n)
+    ∙ ap (λ (v : ℕ). v_at v n) (product-shift (128 - n) r (2 ^ 127) small ∙ product_one r (omega arith))
     )
 
 v_at-even : (q n : ℕ) → v_at (q * 2 ^ n) n ≡ q

@@ -145,8 +145,7 @@ pub fn product_laws()
     ensures one { (x : ℕ) → x < 2 ^ 128 → product x (2 ^ 127) ≡ x }
     ensures example { product 0x0388dace60b6a392f328c2b971b2fe78 0x66e94bd4ef8a2c3b884cfa59ca342b2e
         ≡ 0x5e2ec746917062882c85b0685353deb7 }
-{
-}
+{}
 
 /// The multiples of a block by the polynomials of a degree below 4. Contracts see the block.
 #[derive(Drop)]

@@ -81,7 +81,10 @@ fn three_groups_of_blocks(rt: HostRuntime) {
     }
     let tag = seal(&key, &iv, b"aad", &mut text);
     assert_eq!(rt; &text[252..], LONG_TAIL.as_slice());
-    assert_eq!(rt; u128::from_be_bytes(tag), 0x9004_db4d_b582_8fe1_b606_959c_81d3_909a);
+    assert_eq!(rt;
+        u128::from_be_bytes(tag),
+        0x9004_db4d_b582_8fe1_b606_959c_81d3_909a
+    );
 }
 
 #[test]

@@ -1,4 +1,4 @@
-use Rattle.std.proofs.Common.{◌≡◌, ℕ, ◌%◌, ◌<◌, slice_index, take, get_or-take, length-take-le, sym, ap, ◌∙◌, arith}
+use Rattle.std.proofs.Common.{◌≡◌, ◌%◌, ◌<◌, slice_index, take, get_or-take, length-take-le, sym, ap, ◌∙◌, arith}
 use Rattle.std.proofs.lemmas.List.{ext_get_or}
 use Rattle.aes_block.specs.Cipher.{aes}
 use Rattle.aes_block.proofs.CipherLaws.{length-aes}

@@ -1,6 +1,6 @@
-use Rattle.std.proofs.Common.{◌≡◌, ◌+◌, ◌-◌, ◌*◌, suc, List, ℕ, refl, ap, ◌∙◌, arith}
-use Rattle.aes_block.specs.Cipher.{add_round_key, aes, cipher, mix_columns, shift_rows, state_after, sub_bytes}
-use Rattle.aes_block.proofs.CipherLaws.{cipher_of_schedule, key_size-bounds}
+use Rattle.std.proofs.Common.{◌≡◌, ◌+◌, ◌-◌, suc, List, ℕ, refl, ap, ◌∙◌, arith}
+use Rattle.aes_block.specs.Cipher.{add_round_key, cipher, mix_columns, shift_rows, state_after, sub_bytes}
+use Rattle.aes_block.proofs.CipherLaws.{cipher_of_schedule}
 use Rattle.aes_block.proofs.Aes.encrypt_counted.Goals as goal
 
 pub rounds-init : goal.rounds-init
@@ -30,7 +30,7 @@ returns g c =
       encrypted =
           c.add_round_key-2.ensures
           ∙ rw (c.shift_rows.ensures, c.counted_sub_bytes.ensures.substituted, c.rounds.invariant.0, last)
-            (cipher_of_schedule g.row.NK c.self.inside.words c.args.self.now c.args.block.now
-            c.self.invariant.0 c.self.told.0 c.self.invariant.1 c.self.view_is);
+          (cipher_of_schedule g.row.NK c.self.inside.words c.args.self.now c.args.block.now
+          c.self.invariant.0 c.self.told.0 c.self.invariant.1 c.self.view_is);
       counted = c.counted_sub_bytes.ensures.counted ∙ omega (arith, c.rounds.invariant.1);
     }

@@ -1,6 +1,6 @@
 use Rattle.std.proofs.Common.{◌≡◌, ℕ, ◌+◌, ◌-◌, ◌*◌, ◌/◌, ◌%◌, suc, List, slice_index, sym, ap, ◌∙◌, arith}
 use Rattle.aes_block.specs.Field.{◌⊕◌}
-use Rattle.aes_block.specs.Cipher.{add_round_key, aes, cipher, mix_columns, shift_rows, state_after, sub_bytes}
+use Rattle.aes_block.specs.Cipher.{add_round_key, cipher, mix_columns, shift_rows, state_after, sub_bytes}
 use Rattle.aes_block.specs.Lanes.{tower}
 use Rattle.aes_block.proofs.CipherLaws.{cipher_of_schedule, key_size-bounds, state_after-bytes}
 use Rattle.aes_block.proofs.TowerLaws.{added-place, tower_words_added}

@@ -1,4 +1,4 @@
-use Rattle.std.proofs.Common.{◌≡◌, ℕ, ◌-◌, ◌/◌, ◌%◌, ◌<◌, List, slice_index}
+use Rattle.std.proofs.Common.{ℕ, ◌-◌, ◌/◌, ◌%◌, ◌<◌, List, slice_index}
 use Rattle.aes_block.specs.Cipher.{state_after}
 use Rattle.aes_block.specs.Lanes.{HasLanes, tower}
 use Rattle.aes_block.proofs.Aes.encrypt_pair.Given as goal

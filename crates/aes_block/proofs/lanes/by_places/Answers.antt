@@ -1,5 +1,4 @@
-use Rattle.std.proofs.Common.{◌≡◌, slice_index, refl, ◌∙◌, arith}
-use Rattle.aes_block.specs.Lanes.{at_places}
+use Rattle.std.proofs.Common.{slice_index}
 use Rattle.aes_block.proofs.LaneLaws.{lane_byte}
 use Rattle.aes_block.proofs.TowerLaws.{first_place-place, second_place-place}
 use Rattle.aes_block.proofs.lanes.by_places.Goals as goal

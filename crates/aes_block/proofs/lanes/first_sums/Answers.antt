@@ -1,4 +1,4 @@
-use Rattle.std.proofs.Common.{◌≡◌, slice_index, refl, ◌∙◌, arith}
+use Rattle.std.proofs.Common.{refl, ◌∙◌}
 use Rattle.aes_block.specs.Lanes.{first_sum}
 use Rattle.aes_block.proofs.lanes.first_sums.Goals as goal
 

@@ -2,8 +2,8 @@ use Rattle.std.proofs.Common.{◌≡◌, ℕ, ◌+◌, ◌*◌, ◌/◌, ◌%◌
 use Rattle.std.proofs.lemmas.Simd.{get_or-replicate}
 use Rattle.aes_block.specs.Field.{◌⊕◌}
 use Rattle.aes_block.specs.Cipher.{sbox}
-use Rattle.aes_block.specs.Lanes.{at_places, tower}
-use Rattle.aes_block.specs.declared.lanes.TheConstants.{SBOX_FIRST, SBOX_SECOND, OWN_ROW}
+use Rattle.aes_block.specs.Lanes.{tower}
+use Rattle.aes_block.specs.declared.lanes.TheConstants.{OWN_ROW}
 use Rattle.aes_block.proofs.TowerLaws.{sbox_is, shifted-place, rows-below}
 use Rattle.aes_block.proofs.lanes.last_round.Goals as goal
 

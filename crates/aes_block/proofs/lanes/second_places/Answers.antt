@@ -1,4 +1,4 @@
-use Rattle.std.proofs.Common.{◌≡◌, slice_index, refl, ◌∙◌, arith}
+use Rattle.std.proofs.Common.{slice_index, refl, ◌∙◌}
 use Rattle.aes_block.specs.Lanes.{second_place}
 use Rattle.aes_block.proofs.LaneLaws.{lane_byte}
 use Rattle.aes_block.proofs.TowerLaws.{second_sum-place}

@@ -1,4 +1,4 @@
-use Rattle.std.proofs.Common.{refl, ap, ◌∙◌}
+use Rattle.std.proofs.Common.{refl, ◌∙◌}
 use Rattle.aes_block.specs.Cipher.{mix_columns, shift_rows, sub_bytes}
 use Rattle.aes_block.specs.Lanes.{mixed_column}
 use Rattle.aes_block.proofs.tables.counted_round.Goals as goal
