@@ -9,7 +9,7 @@ use crate::SCHEDULE_LEN;
 use crate::field::sbox_by_table;
 use crate::state::add_round_key;
 
-// For each byte b the column that mixing makes of SBOX(b) in row 0: it and its double and triple.
+// For each byte b, what mixing makes of a column with SBOX(b) in its first row and zeros below.
 const COLUMNS: [u32; 256] = [
     0xc66363a5, 0xf87c7c84, 0xee777799, 0xf67b7b8d, 0xfff2f20d, 0xd66b6bbd, 0xde6f6fb1, 0x91c5c554,
     0x60303050, 0x02010103, 0xce6767a9, 0x562b2b7d, 0xe7fefe19, 0xb5d7d762, 0x4dababe6, 0xec76769a,
