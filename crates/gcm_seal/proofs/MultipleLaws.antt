@@ -1,13 +1,13 @@
 -- The multiples of a block, and the product of blocks by them.
-use Rattle.std.proofs.Common.{◌≡◌, ◌≢◌, ℕ, zero, suc, ◌+◌, ◌-◌, ◌*◌, ◌/◌, ◌%◌, ◌^◌, ◌<◌, ◌≤◌, bit_and, bit_xor, refl, sym, ap, ◌∙◌, arith, add-one}
-use Rattle.std.proofs.Math.Nat.{mul_assoc, add-mul, mul-add}
-use Rattle.std.proofs.lemmas.Nat.{and_mask, pow-add, shr-shr, shr_split, shl_below, mod_low, mod_below, pow_pos, pow_below}
-use Rattle.std.specs.Int.Bits.{xor_block, xor_comm, xor_lt, xor_mod, xor_shifted, xor_shr, xor_zero_r}
+use Rattle.std.proofs.Common.{◌≡◌, ◌≢◌, ℕ, ◌+◌, ◌-◌, ◌*◌, ◌/◌, ◌%◌, ◌^◌, ◌<◌, ◌≤◌, bit_and, bit_xor, refl, sym, ap, ◌∙◌, arith}
+use Rattle.std.proofs.Math.Nat.{mul_assoc, add-mul}
+use Rattle.std.proofs.lemmas.Nat.{and_mask, pow-add, shr-shr, shr_split, shl_below, mod_low, mod_below, pow_pos}
+use Rattle.std.specs.Int.Bits.{xor_block, xor_mod, xor_shifted, xor_shr, xor_zero_r}
 use Rattle.aes_block.specs.Field.{◌⊕◌}
 use Rattle.aes_block.proofs.Checked.{agree_below, same_from_checked}
 use Rattle.aes_block.proofs.FieldLaws.{KeepsSums, same_from_powers, sum_swap}
 use Rattle.gcm_seal.specs.Gcm.{product, r_block, v_at}
-use Rattle.gcm_seal.specs.Multiples.{HasMultiples, wide_value}
+use Rattle.gcm_seal.specs.Multiples.{wide_value}
 use Rattle.gcm_seal.proofs.StepLaws.{v_at_even, v_at_odd}
 use Rattle.gcm_seal.proofs.ProductLaws.{product-left, product_of_power, product-shift, product-zero, v_at-wide}
 

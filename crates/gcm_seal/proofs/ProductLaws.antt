@@ -1,9 +1,9 @@
 -- The laws of the product of blocks: it keeps sums in each factor, and powers of x go through it.
 use Rattle.std.proofs.Common.{◌≡◌, ℕ, zero, suc, ◌+◌, ◌-◌, ◌*◌, ◌/◌, ◌%◌, ◌^◌, ◌<◌, ◌≤◌, ◌==◌, if◌then◌else◌, bit_xor, refl, sym, ap, ◌∙◌, arith}
 use Rattle.std.proofs.Math.Nat.{zero-mul, one-mul, mul_assoc, mul_comm}
-use Rattle.std.proofs.lemmas.Nat.{pow-add, shl-shr, shr-shr, shr_le, shr_split, shl_below, mod_low, mod_below, pow_pos}
+use Rattle.std.proofs.lemmas.Nat.{pow-add, shl-shr, shr-shr, shr_le, shr_split, shl_below, mod_below, pow_pos}
 use Rattle.std.specs.Int.{bit_at}
-use Rattle.std.specs.Int.Bits.{xor_block, xor_comm, xor_mod, xor_shifted, xor_shr, xor_zero_r}
+use Rattle.std.specs.Int.Bits.{xor_comm, xor_shifted, xor_zero_r}
 use Rattle.aes_block.specs.Field.{◌⊕◌}
 use Rattle.aes_block.proofs.Checked.{agree_below, same_from_checked}
 use Rattle.aes_block.proofs.FieldLaws.{KeepsSums, KeepsSums-zero, bit_at-sum, same_from_powers, sum-half, sum-mod_two, sum-mul, sum_swap, bit-mul_sum}

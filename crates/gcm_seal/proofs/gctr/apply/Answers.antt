@@ -1,4 +1,4 @@
-use Rattle.std.proofs.Common.{◌≡◌, ℕ, ◌+◌, ◌-◌, ◌*◌, ◌<◌, List, arith, refl, sym, ap, ◌∙◌}
+use Rattle.std.proofs.Common.{◌≡◌, ℕ, ◌+◌, ◌-◌, ◌*◌, ◌<◌, List, arith, refl, ap, ◌∙◌}
 use Rattle.aes_block.specs.Cipher.{aes}
 use Rattle.gcm_seal.specs.Gcm.{block_at, counter_block}
 use Rattle.gcm_seal.proofs.Counting.{counter_block-add, gctr_none, gctr_more, gctr_all}

@@ -1,4 +1,4 @@
-use Rattle.std.proofs.Common.{◌≡◌, suc, ◌+◌, ap, sym, refl, ◌∙◌, arith}
+use Rattle.std.proofs.Common.{◌≡◌, suc, ◌+◌, ap, refl, ◌∙◌, arith}
 use Rattle.gcm_seal.specs.Gcm.{v_at}
 use Rattle.gcm_seal.proofs.ProductLaws.{v_at-next}
 use Rattle.gcm_seal.proofs.product.times_power.Goals as goal

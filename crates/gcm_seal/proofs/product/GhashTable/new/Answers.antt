@@ -1,4 +1,4 @@
-use Rattle.std.proofs.Common.{◌≡◌, ℕ, ◌*◌, ◌^◌, slice_index, refl, sym, ap, ◌∙◌, arith}
+use Rattle.std.proofs.Common.{◌≡◌, ◌*◌, ◌^◌, slice_index, sym, ap, ◌∙◌, arith}
 use Rattle.gcm_seal.specs.Gcm.{product}
 use Rattle.gcm_seal.proofs.ProductLaws.{product_eight}
 use Rattle.gcm_seal.proofs.product.GhashTable.new.Goals as goal
