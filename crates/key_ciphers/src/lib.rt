@@ -10,7 +10,7 @@ mod records;
 mod seeds;
 
 pub use laws::the_ciphers_are_sound;
-pub use material::fetched_key;
+pub use material::{fetched_fault, fetched_key};
 pub use records::{opened, seeded_record};
 pub use seeds::{seeded_master, seeded_salt, seeded_vector};
 

@@ -1,7 +1,9 @@
-// The stored form of what a seed makes.
+// The stored form of what a seed makes, and the key of a fetched passphrase.
 use super::*;
-use dataset_tree::Suite;
+use dataset_tree::{Format, Refusal, Suite};
+use encryption_roots::{Fetched, Material};
 use salt_rotation::SeedWords;
+use std::test::Fail;
 
 const SEED: [u8; 32] = *b"a seed of thirty-two bytes, here";
 
@@ -20,6 +22,25 @@ const RECORD: [u8; 134] = [
     0xc4, 0xe8, 0xfd, 0xd0, 0xb8, 0x19, 0x6f, 0x66, 0x12, 0xc1, 0x7b, 0x71, 0x30, 0x47, 0xb9, 0xf3,
     0x84, 0x7a, 0xe8, 0xe6, 0xba, 0xe7,
 ];
+
+// By `hashlib.pbkdf2_hmac` of Python: SHA-1, "correct horse", the eight bytes of the seed's words at the places 34 and 35,
+// 100000 iterations.
+const DERIVED: [u8; 32] = [
+    0xb3, 0x79, 0xea, 0xad, 0x32, 0xdd, 0x75, 0x38, 0x1a, 0xa2, 0x8f, 0xbb, 0xfc, 0x28, 0x29, 0x5f,
+    0xeb, 0xcb, 0xa8, 0x1b, 0xa1, 0xc6, 0x8f, 0x62, 0x97, 0xca, 0x8f, 0xbe, 0x4a, 0xcd, 0x56, 0xd9,
+];
+
+#[test]
+fn a_passphrase_is_salted_by_its_seed(rt: HostRuntime) -> Result<(), Fail> {
+    let alloc = rt.alloc();
+    let salt = seeded_salt(&SeedWords::new(SEED));
+    let phrase = Fetched::Got(Material::new(b"correct horse\n".to_vec(alloc)?));
+    let key = fetched_key(Format::Passphrase, 100_000, salt, &phrase);
+    assert_eq!(rt; key, Ok(DERIVED));
+    let few = fetched_fault(Format::Passphrase, 99_999, &phrase);
+    assert_eq!(rt; few, Some(Refusal::BadIters));
+    Ok(())
+}
 
 #[test]
 fn a_seeded_record_is_stored_by_its_places(rt: HostRuntime) {

@@ -19,6 +19,7 @@ use Rattle.key_machine.proofs.CreateLawsRows.{row_of_new}
 use Rattle.dataset_tree.specs.declared.kinds.Format.{Format}
 use Rattle.dataset_tree.specs.declared.kinds.Format.TheVariants.{Raw}
 use Rattle.std.specs.Prelude.{unwrap_or, if◌then◌else◌}
+use Rattle.std.specs.Result.{result_err}
 use Rattle.encryption_roots.specs.declared.command.KeyCmd.TheVariants as commands
 use Rattle.encryption_roots.specs.declared.kit.LineKit.{LineKit}
 use Rattle.encryption_roots.specs.declared.kit.SeedGot.{SeedGot}
@@ -42,7 +43,7 @@ use Rattle.key_machine.proofs.FairLaws.{keeps}
 use Rattle.key_store.specs.declared.create.NewRoot.{NewRoot}
 use Rattle.key_ciphers.specs.Ciphers.{ciphers}
 use Rattle.key_store.specs.Calls.{stepped}
-use Rattle.key_store.specs.NewRoot.{IsToldRoot}
+use Rattle.key_store.specs.NewRoot.{IsToldRoot, unless_fault}
 use Rattle.key_store.specs.State.{stored_of}
 
 pub few_families : (p : Plain) (name : List ℕ) (opts : Options) → IsFree p name opts → makes_encrypted p name opts ≡ true → length p.wrapped < 32
@@ -166,45 +167,66 @@ module _ (p : Plain) (name : List ℕ) (opts : Options) (facts : Told) (root : N
 
 -- ---- what a kit tells of a new root
 
-no_seed : (seed : SeedGot) → ((bytes : List ℕ) → seed ≡ seeds.Got bytes → ⊥) → seed_of seed ≡ Err EntropyFault
-no_seed seeds.NotAsked never = refl
-no_seed seeds.Fault never = refl
-no_seed (seeds.Got bytes) never = absurd (never bytes refl)
+told_at : (p : Plain) (name : List ℕ) (opts : Options) (kit : LineKit) (format : Format) → opts.format ≡ Some format
+    → told ciphers p (commands.Create name opts) kit
+    ≡ told_encrypted ciphers p name opts (key_of ciphers format (new_iters opts) (new_salt ciphers opts (seed_of kit.seed)) kit.new_key) (seed_of kit.seed)
+told_at p name opts kit format is_root =
+    let makes : makes_root opts ≡ true = ap (λ found. is_some found) is_root in
+    let encrypted : makes_encrypted p name opts ≡ true = ap (λ b. b || (not b && is_below_encrypted p name)) makes in
+    let salt : ℕ = new_salt ciphers opts (seed_of kit.seed) in
+    ap (λ b. cond b (told_encrypted ciphers p name opts (create_key ciphers p name opts kit) (seed_of kit.seed)) nothing_told) encrypted
+    ∙ ap (λ b. told_encrypted ciphers p name opts (cond b (key_of ciphers (new_format opts) (new_iters opts) salt kit.new_key) (Ok (parent_key p (parent_row p name)))) (seed_of kit.seed)) makes
+    ∙ ap (λ found. told_encrypted ciphers p name opts (key_of ciphers (unwrap_or found Raw) (new_iters opts) salt kit.new_key) (seed_of kit.seed)) is_root
 
-module _ (p : Plain) (name : List ℕ) (opts : Options) (kit : LineKit) (format : Format) (is_root : opts.format ≡ Some format) (fetched : Result (List ℕ) Refusal)
-    (by_fetch : (iters salt : ℕ) → fetched ≡ key_of ciphers format iters salt kit.new_key) where
+-- a fault of the key, else one of the seed, is told
+first_fault : (p : Plain) (name : List ℕ) (opts : Options) (key seed : Result (List ℕ) Refusal) (why : Refusal) → Err why ≡ unless_fault (result_err key) seed
+    → (told_encrypted ciphers p name opts key seed).fault ≡ Some why
+first_fault p name opts (Err first) seed why stops = let same : first ≡ why = cc in ap (λ w. Some w) same
+first_fault p name opts (Ok key) (Err first) why stops = let same : first ≡ why = cc in ap (λ w. Some w) same
+first_fault p name opts (Ok key) (Ok seed) why stops = absurd (cc)
+
+-- where neither has one, the seed was had
+seed_had : (key had : Result (List ℕ) Refusal) (seed : List ℕ) → Ok seed ≡ unless_fault (result_err key) had → had ≡ Ok seed
+seed_had (Err first) had seed told = absurd (cc)
+seed_had (Ok key) had seed told = sym told
+
+module _ (p : Plain) (name : List ℕ) (opts : Options) (kit : LineKit) (format : Format) (is_root : opts.format ≡ Some format) (iters : ℕ) (own_iters : iters ≡ new_iters opts) (behind : Result (List ℕ) Refusal)
+    (by_kit : (salt : ℕ) → behind ≡ unless_fault (result_err (key_of ciphers format iters salt kit.new_key)) (seed_of kit.seed)) where
   makes : makes_root opts ≡ true
   makes = ap (λ found. is_some found) is_root
 
-  -- the key, then the seed
-  told_root : told ciphers p (commands.Create name opts) kit ≡ told_encrypted ciphers p name opts fetched (seed_of kit.seed)
-  told_root =
-      let encrypted : makes_encrypted p name opts ≡ true = ap (λ b. b || (not b && is_below_encrypted p name)) makes in
+  told_root : told ciphers p (commands.Create name opts) kit ≡ told_encrypted ciphers p name opts (key_of ciphers format iters (new_salt ciphers opts (seed_of kit.seed)) kit.new_key) (seed_of kit.seed)
+  told_root = told_at p name opts kit format is_root
+      ∙ ap (λ n. told_encrypted ciphers p name opts (key_of ciphers format n (new_salt ciphers opts (seed_of kit.seed)) kit.new_key) (seed_of kit.seed)) (sym own_iters)
+
+  pub stopped : (why : Refusal) → behind ≡ Err why → (told ciphers p (commands.Create name opts) kit).fault ≡ Some why
+  stopped why failed =
       let salt : ℕ = new_salt ciphers opts (seed_of kit.seed) in
-      ap (λ b. cond b (told_encrypted ciphers p name opts (create_key ciphers p name opts kit) (seed_of kit.seed)) nothing_told) encrypted
-      ∙ ap (λ b. told_encrypted ciphers p name opts (cond b (key_of ciphers (new_format opts) (new_iters opts) salt kit.new_key) (Ok (parent_key p (parent_row p name)))) (seed_of kit.seed)) makes
-      ∙ ap (λ found. told_encrypted ciphers p name opts (key_of ciphers (unwrap_or found Raw) (new_iters opts) salt kit.new_key) (seed_of kit.seed)) is_root
-      ∙ ap (λ key. told_encrypted ciphers p name opts key (seed_of kit.seed)) (sym (by_fetch (new_iters opts) salt))
+      ap (λ (facts : Told). facts.fault) told_root ∙ first_fault p name opts (key_of ciphers format iters salt kit.new_key) (seed_of kit.seed) why (sym failed ∙ by_kit salt)
 
-  pub key_fault : (why : Refusal) → fetched ≡ Err why → (told ciphers p (commands.Create name opts) kit).fault ≡ Some why
-  key_fault why failed = ap (λ (facts : Told). facts.fault) (told_root ∙ ap (λ key. told_encrypted ciphers p name opts key (seed_of kit.seed)) failed)
+  pub got_seed : (seed : List ℕ) → behind ≡ Ok seed → seed_of kit.seed ≡ Ok seed
+  got_seed seed had = seed_had (key_of ciphers format iters 0 kit.new_key) (seed_of kit.seed) seed (sym had ∙ by_kit 0)
 
-  pub seed_fault : (key : List ℕ) → fetched ≡ Ok key → ((bytes : List ℕ) → kit.seed ≡ seeds.Got bytes → ⊥) → (told ciphers p (commands.Create name opts) kit).fault ≡ Some EntropyFault
-  seed_fault key had never =
+  pub key_stopped : (seed : List ℕ) (why : Refusal) → behind ≡ Ok seed → key_of ciphers format iters (new_salt ciphers opts (Ok seed)) kit.new_key ≡ Err why
+      → (told ciphers p (commands.Create name opts) kit).fault ≡ Some why
+  key_stopped seed why had failed =
+      let got : seed_of kit.seed ≡ Ok seed = got_seed seed had in
       ap (λ (facts : Told). facts.fault)
-      (told_root ∙ ap (λ k. told_encrypted ciphers p name opts k (seed_of kit.seed)) had ∙ ap (λ seed. told_encrypted ciphers p name opts (Ok key) seed) (no_seed kit.seed never))
+      (told_root ∙ ap (λ s. told_encrypted ciphers p name opts (key_of ciphers format iters (new_salt ciphers opts s) kit.new_key) s) got
+      ∙ ap (λ k. told_encrypted ciphers p name opts k (Ok seed)) failed)
 
   -- the root that key and seed make
-  pub is_told : (key seed : List ℕ) (root : NewRoot) → fetched ≡ Ok key → kit.seed ≡ seeds.Got seed
+  pub is_told : (key seed : List ℕ) (root : NewRoot) → key_of ciphers format iters (new_salt ciphers opts (Ok seed)) kit.new_key ≡ Ok key → behind ≡ Ok seed
       → root.props ≡ (let props : Props = record { format = format; place = unwrap_or opts.place Prompt; iters = new_iters opts; salt = new_salt ciphers opts (Ok seed) } in props)
       → root.family.wrapped ≡ seeded_record ciphers (new_suite p name opts) seed key → root.family.block ≡ unwrap_or opts.block 131072 → root.key ≡ key
       → is_some (ciphers.opens root.family.wrapped root.key) ≡ true → is_some (parsed_record root.family.wrapped) ≡ true → IsRecordSize root.family.block → KeepsIterations root.props
       → IsToldRoot p.tree.last opts (told ciphers p (commands.Create name opts) kit) root
-  is_told key seed root had got props wrapped block own opens in_form size kept =
+  is_told key seed root had behind_key props wrapped block own opens in_form size kept =
       let id : ℕ = p.tree.last + 1 in
       let facts : Told = told_encrypted ciphers p name opts (Ok key) (Ok seed) in
       let same : told ciphers p (commands.Create name opts) kit ≡ facts =
-      told_root ∙ ap (λ k. told_encrypted ciphers p name opts k (seed_of kit.seed)) had ∙ ap (λ s. told_encrypted ciphers p name opts (Ok key) (seed_of s)) got in
+      told_root ∙ ap (λ s. told_encrypted ciphers p name opts (key_of ciphers format iters (new_salt ciphers opts s) kit.new_key) s) (got_seed seed behind_key)
+      ∙ ap (λ k. told_encrypted ciphers p name opts k (Ok seed)) had in
       let found : (id == id) ≡ true = grind (arith, nat_tests) in
       let written : facts.wrapped ≡ (id, root.family.wrapped) ∷ [] = ap (λ (w : List ℕ). (id, w) ∷ []) (sym wrapped) in
       let stored : new_stored id opts facts ≡ stored_of root.family =

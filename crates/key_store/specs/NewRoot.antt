@@ -1,6 +1,8 @@
 -- A new encryption root, as the material of its command tells it.
-use Rattle.std.specs.Prelude.{◌≡◌, ℕ, ◌+◌, ◌∷◌, [], true, is_some, Result, Ok, Err}
+use Rattle.std.specs.Prelude.{◌≡◌, ℕ, ◌+◌, List, ◌∷◌, [], true, is_some, Result, Ok, Err}
+use Rattle.std.specs.declared.option.Option.{Option}
 use Rattle.std.specs.declared.option.Option.TheVariants.{Some, None}
+use Rattle.dataset_tree.specs.declared.refusal.Refusal.{Refusal as Why}
 use Rattle.dataset_tree.specs.declared.refusal.Stop.{Stop}
 use Rattle.dataset_tree.specs.declared.refusal.Stop.TheVariants as stops
 use Rattle.encryption_roots.specs.declared.props.Options.{Options}
@@ -30,3 +32,8 @@ abbrev pub TellsFault : {T : Type 0} → Told → Result T Stop → Type 0
 TellsFault facts (Ok _) = Unit {0}
 TellsFault facts (Err (stops.Refused why)) = facts.fault ≡ Some why
 TellsFault facts (Err stops.NoMemory) = Unit {0}
+
+-- what was had, where nothing before it has a fault
+abbrev pub unless_fault : Option Why → Result (List ℕ) Why → Result (List ℕ) Why
+unless_fault None had = had
+unless_fault (Some why) had = Err why

@@ -1,23 +1,25 @@
 // New datasets.
-ghost use Rattle.std.specs.Prelude.{◌≡◌, ◌<◌, ◌≤◌, ◌+◌, true, false, length, vec_capacity, unwrap_or, is_some, Some, None, IfOk, IfSome, OnOk, OnErr};
+ghost use Rattle.std.specs.Prelude.{◌≡◌, ℕ, ◌<◌, ◌≤◌, ◌+◌, true, false, length, vec_capacity, unwrap_or, is_some, Some, None, IfOk, IfSome, OnOk, OnErr};
+ghost use Rattle.std.specs.Result.{result_err};
 ghost use Rattle.dataset_tree.specs.Tree.{new_id, with_row};
 ghost use Rattle.encryption_roots.specs.ById.{IsRisingById, with_id};
 ghost use Rattle.encryption_roots.specs.RecordSize.{IsRecordSize};
 ghost use Rattle.encryption_roots.specs.declared.command.KeyCmd.TheVariants as commands;
 ghost use Rattle.key_machine.specs.Plain.{mkey};
-ghost use Rattle.key_machine.specs.Create.{parent_row, are_bad_iterations, new_suite, parent_suite, new_iters, new_salt};
+ghost use Rattle.key_machine.specs.Create.{parent_row, is_passphrase, are_bad_iterations, new_suite, parent_suite, new_iters, new_salt};
 ghost use Rattle.key_machine.specs.Step.{refusal_of, told};
+ghost use Rattle.key_machine.specs.Told.{key_of, seed_of};
 ghost use Rattle.key_ciphers.specs.Ciphers.{ciphers};
 ghost use Rattle.key_store.specs.Calls.{stepped, state_after, AnswersMade};
-ghost use Rattle.key_store.specs.NewRoot.{IsToldRoot, TellsFault};
+ghost use Rattle.key_store.specs.NewRoot.{IsToldRoot, TellsFault, unless_fault};
 ghost use Rattle.encryption_roots.specs.Props.{KeepsIterations};
 ghost use Rattle.encryption_roots.specs.declared.props.Location.{Location};
 
-use crate::needs::place_or_prompt;
+use crate::needs::{is_passphrase, place_or_prompt};
 use crate::state::{FamilyRecord, KeyState};
 use dataset_tree::{Format, Kind, NoMemory, Refusal, SetName, Stop, Suite, Tree};
 use encryption_roots::{LineKit, Options, Props, SeedGot, put_at_id};
-use key_ciphers::{fetched_key, seeded_record, seeded_salt};
+use key_ciphers::{fetched_fault, fetched_key, seeded_record, seeded_salt};
 use salt_rotation::SeedWords;
 use std::alloc::AllocError;
 
@@ -40,8 +42,8 @@ impl KeyState {
     /// root's key is loaded, and opens its record.
     ///
     /// # Errors
-    /// Those of `needs`, then `KeyFileMissing` or `KeyFault` at the fetch, `BadMaterial`, and `EntropyFault`. What the kit wasn't
-    /// asked for counts as a taking that failed. After an `Err` all is as before.
+    /// Those of `needs`, then `KeyFileMissing` or `KeyFault` at the fetch, `BadMaterial`, and `EntropyFault`, before which no key
+    /// is derived. What the kit wasn't asked for counts as a taking that failed. After an `Err` all is as before.
     pub fn create(&mut self, name: &SetName, opts: &Options, kit: &LineKit) -> Result<u32, Stop>
         requires record_size { IfSome opts.now.block IsRecordSize }
         ensures reply { AnswersMade result (stepped self.old (commands.Create name.now opts.now) kit.now).reply }
@@ -110,15 +112,15 @@ impl KeyState {
         ensures root { IfOk result (λ root. IsToldRoot self.now.tree.last opts.now (told ciphers self.now (commands.Create name.now opts.now) kit.now) root) }
         ensures fault { TellsFault (told ciphers self.now (commands.Create name.now opts.now) kit.now) result }
     {
-        let key = match fetched_key(format, &kit.new_key) {
+        let seed = match seed_behind_key(format, new_iters(opts), kit) {
+            Ok(seed) => SeedWords::new(seed),
+            Err(why) => return Err(Stop::Refused(why)),
+        };
+        let props = new_props(format, opts, &seed)?;
+        let key = match fetched_key(format, props.iters, props.salt, &kit.new_key) {
             Ok(key) => key,
             Err(why) => return Err(Stop::Refused(why)),
         };
-        let SeedGot::Got(seed) = kit.seed else {
-            return Err(Stop::Refused(Refusal::EntropyFault));
-        };
-        let seed = SeedWords::new(seed);
-        let props = new_props(format, opts, &seed)?;
         let wrapped = seeded_record(&seed, self.new_suite(name, opts), &key);
         let block = opts.block.unwrap_or(DEFAULT_RECORD_SIZE);
         Ok(NewRoot {
@@ -156,10 +158,7 @@ fn new_props(format: Format, opts: &Options, seed: &SeedWords) -> Result<Props, 
     let place = place_or_prompt(opts.place.as_ref())?;
     let (iters, salt) = match format {
         Format::Raw | Format::Hex => (0, 0),
-        Format::Passphrase => (
-            opts.iters.unwrap_or(DEFAULT_ITERATIONS) as u32,
-            seeded_salt(seed),
-        ),
+        Format::Passphrase => (new_iters(opts), seeded_salt(seed)),
     };
     Ok(Props {
         format,
@@ -167,6 +166,39 @@ fn new_props(format: Format, opts: &Options, seed: &SeedWords) -> Result<Props, 
         iters,
         salt,
     })
+}
+
+/// The iterations of a new root's key, 0 where the format is no passphrase.
+fn new_iters(opts: &Options) -> u32
+    requires { are_bad_iterations opts.now.iters ≡ false }
+    ensures iters { result ≡ new_iters opts.now }
+    ensures within { is_passphrase opts.now.format ≡ true → (100000 ≤ result) × (result ≤ 10000000) }
+{
+    if is_passphrase(opts.format) {
+        opts.iters.unwrap_or(DEFAULT_ITERATIONS) as u32
+    } else {
+        0
+    }
+}
+
+/// The seed of a line whose new key has no fault, or the first fault of both. No key is derived for it.
+fn seed_behind_key(format: Format, iters: u32, kit: &LineKit) -> Result<[u8; 32], Refusal>
+    ensures { (salt : ℕ) → result ≡ unless_fault (result_err (key_of ciphers format iters salt kit.now.new_key)) (seed_of kit.now.seed) }
+{
+    if let Some(why) = fetched_fault(format, iters, &kit.new_key) {
+        return Err(why);
+    }
+    seed_got(kit.seed)
+}
+
+/// The seed that was had.
+fn seed_got(seed: SeedGot) -> Result<[u8; 32], Refusal>
+    ensures { result ≡ seed_of seed }
+{
+    match seed {
+        SeedGot::Got(seed) => Ok(seed),
+        SeedGot::Fault | SeedGot::NotAsked => Err(Refusal::EntropyFault),
+    }
 }
 
 /// Adds a dataset that nothing refuses.

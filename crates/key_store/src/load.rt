@@ -1,9 +1,10 @@
 // Loads and unloads.
-ghost use Rattle.std.specs.Prelude.{◌≡◌, ℕ, is_some, Some, None, OnOk, OnErr};
+ghost use Rattle.std.specs.Prelude.{◌≡◌, ℕ, Option, is_some, Some, OnOk, OnErr};
 ghost use Rattle.std.specs.List.{find};
 ghost use Rattle.std.specs.Option.{option_copied};
 ghost use Rattle.dataset_tree.specs.Tree.{id_named};
 ghost use Rattle.encryption_roots.specs.ById.{without_id};
+ghost use Rattle.encryption_roots.specs.declared.props.Location.{Location as Place};
 ghost use Rattle.encryption_roots.specs.declared.command.KeyCmd.TheVariants as commands;
 ghost use Rattle.key_machine.specs.Plain.{owned, owner_of, is_same};
 ghost use Rattle.key_machine.specs.Load.{first_wrong, told_load_of};
@@ -18,14 +19,16 @@ use encryption_roots::{LineKit, Props, owner_of, put_at_id, remove_at_id};
 use key_ciphers::{fetched_key, opened};
 
 impl KeyState {
-    /// Loads the key of a root, where every record that the root owns opens under it. With `check_only` nothing changes.
+    /// Loads the key of a root, where every record that the root owns opens under it, by the root's own key format, iterations
+    /// and salt. With `check_only` nothing changes, and the key may be loaded. From which place the key was fetched doesn't
+    /// show here.
     ///
     /// # Errors
     /// `NoSuch`, `NotEncrypted`, `NotRoot`, `KeyLoaded` (not with `check_only`), `KeyFileMissing` or `KeyFault` at the fetch,
     /// `BadMaterial`, and `WrongKey` of the first record, by id, that doesn't open. After an `Err` all is as before.
     pub fn load(&mut self, name: &SetName, check_only: bool, kit: &LineKit) -> Result<(), Stop>
-        ensures reply { AnswersDone result (stepped self.old (commands.Load name.now check_only None) kit.now).reply }
-        ensures state { self.new ≡ state_after result self.old (stepped self.old (commands.Load name.now check_only None) kit.now).state }
+        ensures reply { (place : Option Place) → AnswersDone result (stepped self.old (commands.Load name.now check_only place) kit.now).reply }
+        ensures state { (place : Option Place) → self.new ≡ state_after result self.old (stepped self.old (commands.Load name.now check_only place) kit.now).state }
         ensures unchanged { OnErr result (self.new ≡ self.old) }
     {
         let root = match self.load_root(name, check_only) {
@@ -49,7 +52,7 @@ impl KeyState {
     fn root_key(&self, root: u32, props: &Props, kit: &LineKit) -> Result<[u8; 32], Refusal>
         ensures { result ≡ key_told (told_load_of ciphers self.now kit.now root (Some props.now)) }
     {
-        let key = fetched_key(props.format, &kit.new_key)?;
+        let key = fetched_key(props.format, props.iters, props.salt, &kit.new_key)?;
         if let Some(dataset) = self.first_wrong(root, &key) {
             return Err(Refusal::WrongKey { dataset });
         }

@@ -278,7 +278,7 @@ impl KeyState {
     }
 }
 
-fn is_passphrase(format: Option<Format>) -> bool
+pub(crate) fn is_passphrase(format: Option<Format>) -> bool
     ensures { result ≡ is_passphrase format }
 {
     format == Some(Format::Passphrase)

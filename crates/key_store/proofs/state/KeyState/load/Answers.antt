@@ -1,5 +1,6 @@
-use Rattle.std.proofs.Common.{◌≡◌, true, is_some, Some, None, Ok, Err, List, ℕ, sym, ap, ◌∙◌, subst, arith}
+use Rattle.std.proofs.Common.{◌≡◌, true, is_some, Option, Some, Ok, Err, List, ℕ, sym, ap, ◌∙◌, subst, arith}
 use Rattle.std.specs.List.{All}
+use Rattle.encryption_roots.specs.declared.props.Location.{Location}
 use Rattle.encryption_roots.specs.declared.command.KeyCmd.{KeyCmd}
 use Rattle.encryption_roots.specs.declared.command.KeyCmd.TheVariants as commands
 use Rattle.encryption_roots.specs.ById.{at_id, with_id}
@@ -38,11 +39,11 @@ invariant_of-self c =
     }
 
 -- the step at the state that is seen
-refused_step : (c : goal.In-Err-root_key) → stepped c.args.self.now (commands.Load c.args.name.now c.args.check_only None) c.args.kit.now ≡ refused c.args.self.now c.in-Err-root_key.why
-refused_step c =
+refused_step : (c : goal.In-Err-root_key) (place : Option Location) → stepped c.args.self.now (commands.Load c.args.name.now c.args.check_only place) c.args.kit.now ≡ refused c.args.self.now c.in-Err-root_key.why
+refused_step c place =
     let p : Plain = c.args.self.now in
     let root : ℕ = c.in-Ok.root in
-    let command : KeyCmd = commands.Load c.args.name.now c.args.check_only None in
+    let command : KeyCmd = commands.Load c.args.name.now c.args.check_only place in
     let facts : told ciphers p command c.args.kit.now ≡ told_load_of ciphers p c.args.kit.now root (Some c.in-Some.props.now) =
     ap (λ found. told_load ciphers p c.args.kit.now found) c.in-Ok.ensures.1
     ∙ ap (λ found. told_load_of ciphers p c.args.kit.now root found) (ap (λ (q : Plain). at_id root q.roots) (sym c.self.view_is) ∙ sym c.in-Some.ensures) in
@@ -50,7 +51,7 @@ refused_step c =
     refused_by_material p command (told ciphers p command c.args.kit.now) c.in-Err-root_key.why c.in-Ok.ensures.0 (material_refuses (told ciphers p command c.args.kit.now) c.in-Err-root_key.why (ap key_told facts ∙ material))
 
 pub returns-in-Err-root_key-clause-reply : goal.returns-in-Err-root_key-clause-reply
-returns-in-Err-root_key-clause-reply c = ap (λ (s : Stepped). s.reply) (refused_step c)
+returns-in-Err-root_key-clause-reply c = λ place. ap (λ (s : Stepped). s.reply) (refused_step c place)
 
 pub returns-in-Err-root_key-clause-state : goal.returns-in-Err-root_key-clause-state
-returns-in-Err-root_key-clause-state c = sym (ap (λ (s : Stepped). s.state) (refused_step c))
+returns-in-Err-root_key-clause-state c = λ place. sym (ap (λ (s : Stepped). s.state) (refused_step c place))
