@@ -137,19 +137,59 @@ fn run_words<S: Source, O: Sink, F: KeyFiles, E: Entropy>(
     ensures sink { SinkFaults (Some result) (O.faults out.old) (O.faults out.new) }
 {
     match start(alloc, words) {
-        Ok((reader, mut keys)) => {
-            let mut outside = Lent {
-                next: 1,
-                reader,
-                source: script,
-                files,
-                entropy,
-                found,
-            };
-            run_lines(alloc, &mut keys, out, &mut outside)
+        Ok((reader, keys)) => {
+            run_script(alloc, reader, keys, script, out, files, entropy, found)
         }
         Err(ending) => ending,
     }
+}
+
+/// Runs a script, and says how it ended.
+fn run_script<S: Source, O: Sink, F: KeyFiles, E: Entropy>(
+    alloc: Global,
+    reader: LineReader,
+    keys: KeyState,
+    script: &mut S,
+    out: &mut O,
+    files: &mut F,
+    entropy: &mut E,
+    found: &mut Found,
+) -> Ending
+    requires reader { reader ≡ [] }
+    requires keys { keys ≡ no_keys }
+    ensures told { let before : Outer = record {
+      files = F.files files.old;
+      fetches = calls_of (F.calls files.old) (F.failing files.old) (F.faults files.old);
+      entropy = E.left entropy.old;
+      fills = calls_of (E.calls entropy.old) (E.failing entropy.old) (E.faults entropy.old);
+      found = found.old;
+    } in
+        let after : Outer = record {
+          files = F.files files.new;
+          fetches = calls_of (F.calls files.new) (F.failing files.new) (F.faults files.new);
+          entropy = E.left entropy.new;
+          fills = calls_of (E.calls entropy.new) (E.failing entropy.new) (E.faults entropy.new);
+          found = found.new;
+        } in
+        RunsFrom (λ line. line ≤ MAX_LINES) before after (λ found made.
+        IfSome (told_world no_keys before (script_of 1 (S.left script.old))) (λ w.
+        Ends result (run_from found w) made (O.taken out.old) (O.taken out.new))) }
+    ensures end { result ≡ Ending.Done → IfSome (S.left script.old) (λ bytes. S.left script.new ≡ Some []) }
+    ensures not_usage { result ≢ Ending.Usage }
+    ensures source { SourceFaults (Some result) (S.faults script.old) (S.faults script.new) }
+    ensures sink { SinkFaults (Some result) (O.faults out.old) (O.faults out.new) }
+{
+    let mut keys = keys;
+    let mut outside = Lent {
+        next: 1,
+        reader,
+        source: script,
+        files,
+        entropy,
+        found,
+    };
+    let ending = run_lines(alloc, &mut keys, out, &mut outside);
+    ending
 }
 
 /// A reader that has taken nothing, and a host that holds nothing, for a command line without words.
