@@ -1,14 +1,16 @@
 -- The refusals for a fetch and for a seed that failed come of the kit alone.
-use Rattle.std.proofs.Common.{◌≡◌, ◌≢◌, ◌⊎◌, ⊎_elim, inl, inr, ℕ, ◌≤◌, Bool, true, false, List, [], ◌∷◌, length, nat_lt, Option, Some, None, Result, Ok, Err, is_some, refl, ap, sym, ◌∙◌, subst, arith}
+use Rattle.std.proofs.Common.{◌≡◌, ◌≢◌, ◌⊎◌, ⊎_elim, inl, inr, ℕ, ◌≤◌, Bool, true, false, ◌||◌, ◌==◌, List, [], ◌∷◌, length, nat_lt, Option, Some, None, Result, Ok, Err, is_some, refl, ap, sym, ◌∙◌, subst, arith}
 use Rattle.std.proofs.lemmas.Bool.{cases_Bool}
 use Rattle.std.specs.Prelude.{unwrap_or, if◌then◌else◌}
 use Rattle.std.specs.List.{AllByRecursion}
-use Rattle.std.specs.Option.{option_map}
+use Rattle.std.specs.Char.{is_ascii_hexdigit}
+use Rattle.std.specs.List.{prefix_len}
+use Rattle.std.specs.Option.{option_map, option_or}
 use Rattle.dataset_tree.specs.declared.kinds.Format.{Format}
 use Rattle.dataset_tree.specs.declared.kinds.Format.TheVariants.{Raw, Hex, Passphrase}
 use Rattle.dataset_tree.specs.declared.refusal.Refusal.{Refusal}
-use Rattle.dataset_tree.specs.declared.refusal.Refusal.TheVariants.{KeyFault, EntropyFault, KeyFileMissing, WrongKey, BadMaterial, BadOptions, Busy, NoSuch}
-use Rattle.dataset_tree.specs.declared.refusal.MaterialFault.TheVariants.{Short, Long}
+use Rattle.dataset_tree.specs.declared.refusal.Refusal.TheVariants.{KeyFault, EntropyFault, KeyFileMissing, WrongKey, BadIters, BadMaterial, Busy, NoSuch}
+use Rattle.dataset_tree.specs.declared.refusal.MaterialFault.TheVariants.{Short, Long, Hex as NoDigit}
 use Rattle.dataset_tree.specs.Refusal.{number_of, Gives}
 use Rattle.encryption_roots.specs.declared.props.Options.{Options}
 use Rattle.encryption_roots.specs.declared.props.Props.{Props}
@@ -23,7 +25,8 @@ use Rattle.encryption_roots.specs.declared.command.KeyCmd.{KeyCmd}
 use Rattle.encryption_roots.specs.declared.command.KeyCmd.TheVariants as commands
 use Rattle.encryption_roots.specs.ById.{at_id}
 use Rattle.dataset_tree.specs.Tree.{id_named}
-use Rattle.key_ciphers.specs.Ciphers.{ciphers, wrapping_key}
+use Rattle.key_ciphers.specs.Ciphers.{ciphers}
+use Rattle.key_formats.specs.WrappingKey.{length_fault, material_fault, material_key, unless_faulty, without_line_feed, wkey}
 use Rattle.key_machine.specs.Create.{makes_root, makes_encrypted, parent_row, parent_key, create_cases, create_key, told_encrypted, new_format, new_iters, new_salt}
 use Rattle.key_machine.specs.Fair.{WasAsked, SeedWasAsked, Suffices}
 use Rattle.key_machine.specs.Get.{get_cases}
@@ -40,7 +43,7 @@ use Rattle.dataset_tree.specs.declared.refusal.Stop.{Stop}
 use Rattle.dataset_tree.specs.declared.refusal.Stop.TheVariants as stops
 use Rattle.edge_io.specs.Faults.{Rose}
 use Rattle.shell_run.specs.declared.command.Shown.{Shown}
-use Rattle.shell_run.specs.Answers.{HasWanted, Replies}
+use Rattle.shell_run.specs.Answers.{HasWanted, Replies, settled}
 
 -- a refusal for a taking that failed, by its number
 pub record IsTaking (why : Refusal) : Type 0 where
@@ -154,14 +157,38 @@ module _ (why : Refusal) (taking : IsTaking why) where
 
   -- ---- what a kit tells
 
-  wrapping_apart : (format : Format) (material : List ℕ) (iters salt : ℕ) → wrapping_key format material iters salt ≡ Err why → ⊥
-  wrapping_apart Raw material iters salt told =
-      ⊎_elim (λ (short : nat_lt (length material) 32 ≡ true). low (BadMaterial Short) (omega arith) (let here : Err (BadMaterial Short) ≡ Err why = rw short at told in cc))
-      (λ (enough : nat_lt (length material) 32 ≡ false).
-      ⊎_elim (λ (long : nat_lt 32 (length material) ≡ true). low (BadMaterial Long) (omega arith) (let here : Err (BadMaterial Long) ≡ Err why = rw (enough, long) at told in cc))
-      (λ (fits : nat_lt 32 (length material) ≡ false). let none : Ok material ≡ Err why = rw (enough, fits) at told in cc) (cases_Bool (nat_lt 32 (length material)))) (cases_Bool (nat_lt (length material) 32))
-  wrapping_apart Hex material iters salt told = high BadOptions (omega arith) (cc)
-  wrapping_apart Passphrase material iters salt told = high BadOptions (omega arith) (cc)
+  by_length : (a b : Bool) → (if a then Some (BadMaterial Short) else if b then Some (BadMaterial Long) else None) ≡ Some why → ⊥
+  by_length true b found = low (BadMaterial Short) (omega arith) (cc)
+  by_length false true found = low (BadMaterial Long) (omega arith) (cc)
+  by_length false false found = cc
+
+  by_digits : (fault : Option Refusal) (b : Bool) (at : ℕ) → (fault ≡ Some why → ⊥) → option_or fault (if b then None else Some (BadMaterial (NoDigit at))) ≡ Some why → ⊥
+  by_digits (Some first) b at apart found = apart found
+  by_digits None true at apart found = cc
+  by_digits None false at apart found = low (BadMaterial (NoDigit at)) (omega arith) (cc)
+
+  by_iters : (b : Bool) (fault : Option Refusal) → (fault ≡ Some why → ⊥) → (if b then Some BadIters else fault) ≡ Some why → ⊥
+  by_iters true fault apart found = high BadIters (omega arith) (cc)
+  by_iters false fault apart found = apart found
+
+  length_apart : (least most : ℕ) (material : List ℕ) → length_fault least most material ≡ Some why → ⊥
+  length_apart least most material found = by_length (nat_lt (length material) least) (nat_lt most (length material)) found
+
+  material_apart : (format : Format) (material : List ℕ) (iters : ℕ) → material_fault format material iters ≡ Some why → ⊥
+  material_apart Raw material iters found = length_apart 32 32 material found
+  material_apart Hex material iters found =
+      let digits : List ℕ = without_line_feed material in
+      by_digits (length_fault 64 64 digits) (prefix_len is_ascii_hexdigit digits == length digits) (prefix_len is_ascii_hexdigit digits) (length_apart 64 64 digits) found
+  material_apart Passphrase material iters found =
+      let phrase : List ℕ = without_line_feed material in
+      by_iters (nat_lt iters 100000 || nat_lt 10000000 iters) (length_fault 8 512 phrase) (length_apart 8 512 phrase) found
+
+  faulty_is : (fault : Option Refusal) (key : List ℕ) → unless_faulty fault key ≡ Err why → fault ≡ Some why
+  faulty_is None key told = absurd (cc)
+  faulty_is (Some first) key told = cc
+
+  wrapping_apart : (format : Format) (material : List ℕ) (iters salt : ℕ) → wkey format material iters salt ≡ Err why → ⊥
+  wrapping_apart format material iters salt told = material_apart format material iters (faulty_is (material_fault format material iters) (material_key format material iters salt) told)
 
   -- a fetched key's fault is that of its fetch
   key_fault_is : (format : Format) (iters salt : ℕ) (fetched : Fetched) → WasAsked fetched → key_of ciphers format iters salt fetched ≡ Err why → (fetched ≡ fetches.Fault) × (why ≡ KeyFault)
@@ -231,8 +258,10 @@ module _ (why : Refusal) (taking : IsTaking why) where
 
 -- ---- a command that is refused by one of them
 
-replies_refused : (result : Result Shown Stop) (reply : Reply) (why : Refusal) → result ≡ Err (stops.Refused why) → Replies result reply → reply ≡ Refused why
-replies_refused result reply why same replies = let refused : Replies (Err (stops.Refused why)) reply = subst (λ (r : Result Shown Stop). Replies r reply) same replies in refused
+replies_refused : (result : Result Shown Stop) (reply : Reply) (why : Refusal) → settled result ≡ Ok (Err why) → Replies result reply → reply ≡ Refused why
+replies_refused (Ok shown) reply why same replies = absurd (cc)
+replies_refused (Err (stops.Refused other)) reply why same replies = let inner : other ≡ why = cc in replies ∙ ap (λ w. Refused w) inner
+replies_refused (Err stops.NoMemory) reply why same replies = absurd (cc)
 
 wants_by : (p : Plain) (command : KeyCmd) (needs : Needs) (refusal : Option Refusal) → needed_unless p command refusal ≡ Ok needs → needs_of (wanted p command) ≡ needs
 wants_by p command needs None known = cc
@@ -248,7 +277,7 @@ suffices_by p command needs kit known has =
     }
 
 pub executed_fault : (why : Refusal) → IsTaking why → (p : Plain) (command : KeyCmd) (needs : Needs) (kit : LineKit) (result : Result Shown Stop) → needed p command ≡ Ok needs → HasWanted needs kit
-    → Replies result (stepped p command kit).reply → result ≡ Err (stops.Refused why) → Failed why kit
+    → Replies result (stepped p command kit).reply → settled result ≡ Ok (Err why) → Failed why kit
 executed_fault why taking p command needs kit result known has replies refused =
     step_fault why taking p command kit (suffices_by p command needs kit known has) (replies_refused result (stepped p command kit).reply why refused replies)
 
@@ -257,12 +286,11 @@ needed_apart why p command None known = absurd (cc)
 needed_apart why p command (Some other) known = cc
 
 pub needs_apart : (why : Refusal) → IsTaking why → (p : Plain) (command : KeyCmd) (stop : Stop) → Gives (let stopped : Result Needs Stop = Err stop in stopped) (needed p command)
-    → (let stopped : Result Shown Stop = Err stop in stopped) ≡ Err (stops.Refused why) → ⊥
+    → settled (Err stop) ≡ Ok (Err why) → ⊥
 needs_apart why taking p command (stops.Refused other) gives same =
-    let stop : (let s : Stop = stops.Refused other in s) ≡ stops.Refused why = cc in
     let inner : other ≡ why = cc in
     state_apart why taking p command (needed_apart why p command (refusal_of p command) (gives ∙ ap (λ w. let r : Result Needs Refusal = Err w in r) inner))
-needs_apart why taking p command stops.NoMemory gives same = let stop : (let s : Stop = stops.NoMemory in s) ≡ stops.Refused why = cc in cc
+needs_apart why taking p command stops.NoMemory gives same = cc
 
 pub key_taking : IsTaking KeyFault
 key_taking = record { low = omega arith; high = omega arith }

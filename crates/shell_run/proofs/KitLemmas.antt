@@ -1,5 +1,5 @@
 -- What is taken for a command: the old key, the new key and a seed.
-use Rattle.std.proofs.Common.{◌≡◌, ◌⊎◌, inl, inr, ⊎_elim, ◌<◌, ℕ, ◌+◌, ◌≤◌, Bool, true, false, ◌||◌, List, [], ◌∷◌, ◌++◌, drop, if◌then◌else◌, Option, Some, None, Result, Ok, Err, IsErr, IfErr, IfOk, IfSome, IsSomeAnd, refl, ap, sym, ◌∙◌, subst, append_assoc, arith}
+use Rattle.std.proofs.Common.{◌≡◌, ◌⊎◌, inl, inr, ⊎_elim, ◌<◌, ℕ, ◌+◌, ◌≤◌, Bool, true, false, ◌||◌, List, [], ◌∷◌, ◌++◌, drop, if◌then◌else◌, Option, Some, None, Result, Ok, Err, IsErr, IsErrAnd, IfErr, IfOk, IfSome, IsSomeAnd, refl, ap, sym, ◌∙◌, subst, append_assoc, arith}
 use Rattle.std.specs.declared.alloc.AllocError.{AllocError}
 use Rattle.std.specs.List.{AllByRecursion}
 use Rattle.std.proofs.lemmas.List.{append-nil}
@@ -29,9 +29,14 @@ use Rattle.shell_run.proofs.TakingLemmas.{entries_made, all_both, all_first, all
 
 -- ---- one taking
 
--- the lists of takings before which a fetch from a file found no memory
-pub fetch_not : (entry : FoundEntry) (place : Option Location) (old new : Outer) (script : ToldScript) → Takes (λ line. line ≡ entry.line) [] old new → Acts entry.line old new (Fetches (Err NoMemory) entry place old.files script script)
-fetch_not entry place old new script takes = record { made = []; takes = takes; said = (fetch_at (taking_with entry false) place, refl) }
+-- a fetch from a file found no memory to be listed
+pub fetch_not : (entry : FoundEntry) (place : Option Location) (old new : Outer) (script : ToldScript) (result : Result Fetched Halt) → IsErr result → IsErrAnd result (λ halt. halt ≡ NoMemory) → Takes (λ line. line ≡ entry.line) [] old new
+    → Acts entry.line old new (Fetches result entry place old.files script script)
+fetch_not entry place old new script (Ok given) is_err stopped takes = absurd (cc)
+fetch_not entry place old new script (Err halt) is_err stopped takes =
+    let memory : halt ≡ NoMemory = stopped in
+    subst (λ (h : Halt). Acts entry.line old new (Fetches (Err h) entry place old.files script script)) (sym memory)
+    (record { made = []; takes = takes; said = (fetch_at (taking_with entry false) place, refl) })
 
 file_told : (entry : FoundEntry) (path : List ℕ) (given : Fetched) (files : Option (List (List ℕ × List ℕ))) (script : ToldScript)
     → IfSome files (λ told. given ≡ (if is_fault given then fetches.Fault else material_of (fetched path told)))

@@ -12,9 +12,8 @@ returns-in-Err-fetch_if-clause-takes g c =
 
 pub returns-in-Err-fill-clause-takes : goal.returns-in-Err-fill-clause-takes
 returns-in-Err-fill-clause-takes g c =
-    rw c.in-Err-fill.ensures.script
-    (kit_stopped_third c.args.number (wants_of c.args.needs.now) _ _ _ _ _ _ _ c.in-Ok.old_key c.in-Ok-fetch_if.new_key c.in-Err-fill.field-0 (rw c.taking_of-old_entry.ensures at c.in-Ok.ensures.takes)
-    (rw c.taking_of-new_entry.ensures at c.in-Ok-fetch_if.ensures.takes) (rw c.taking_of.ensures at c.in-Err-fill.ensures.takes))
+    kit_stopped_third c.args.number (wants_of c.args.needs.now) _ _ _ _ _ _ _ c.in-Ok.old_key c.in-Ok-fetch_if.new_key c.in-Err-fill.field-0 (rw c.taking_of-old_entry.ensures at c.in-Ok.ensures.takes)
+    (rw c.taking_of-new_entry.ensures at c.in-Ok-fetch_if.ensures.takes) (rw c.taking_of.ensures at c.in-Err-fill.ensures.takes)
 
 pub returns-clause-takes : goal.returns-clause-takes
 returns-clause-takes g c =

@@ -12,7 +12,7 @@ pub returns-in-Ok-None-clause-given : goal.returns-in-Ok-None-clause-given
 returns-in-Ok-None-clause-given g c =
     let told : Option (List ℕ) = unread c.args.reader.now (g.S.Source.left c.args.source.now) in
     let left : Option (List ℕ) = unread c.next_prompt.new.self (g.S.Source.left c.next_prompt.new.src) in
-    prompt_none c.args.next.now told left (rw c.in-Ok-None.field-0-is at c.in-Ok-None.ensures.line) c.in-Ok-None.ensures.rest
+    rw c.new.ensures.items (prompt_none c.args.next.now told left (rw c.in-Ok-None.field-0-is at c.in-Ok-None.ensures.line) c.in-Ok-None.ensures.rest)
 
 pub returns-else-number-gt-MAX_LINES-clause-given : goal.returns-else-number-gt-MAX_LINES-clause-given
 returns-else-number-gt-MAX_LINES-clause-given g c =
