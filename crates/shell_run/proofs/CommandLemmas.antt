@@ -191,36 +191,36 @@ shown_ok n p (shows.Text text) reply replies = ap (reply_output n p) (sym replie
 pub has_turn : (n : ℕ) (p : Plain) (outer : Outer) (script : ToldScript) (shown : Result Shown Refusal) (outcome : Outcome) (result : Result (Unit {0}) Halt) (before after : List ℕ) (made : List Taking)
     → Executes (Ok shown) n outcome (told_world p outer script) made → OnOk result (after ≡ before ++ shown_output n p.tree.rows shown) → OnErr result (result ≡ Err NoMemory)
     → HasAnswer result (answered n outcome) (told_world p outer script) before after made
-has_turn n p outer script (Ok shown) (Does done) (Ok ok) before after made executes printed stops =
+has_turn n p outer script (Ok shown) (Does done) (Ok ok) before after made executes printed ended =
     let keys : done.world.present.keys ≡ p = keys_told p outer script done.world executes.1 in
     (executes.1, printed ∙ ap (λ out. before ++ out) (shown_ok n p shown done.reply executes.0 ∙ ap (λ q. reply_output n q done.reply) (sym keys)), executes.2)
-has_turn n p outer script (Err why) (Does done) (Ok ok) before after made executes printed stops =
+has_turn n p outer script (Err why) (Does done) (Ok ok) before after made executes printed ended =
     let keys : done.world.present.keys ≡ p = keys_told p outer script done.world executes.1 in
     (executes.1, printed ∙ ap (λ out. before ++ out) (ap (reply_output n p) (sym executes.0) ∙ ap (λ q. reply_output n q done.reply) (sym keys)), executes.2)
-has_turn n p outer script (Ok shown) (Does done) (Err halt) before after made executes printed stops =
+has_turn n p outer script (Ok shown) (Does done) (Err halt) before after made executes printed ended =
     let memory : halt ≡ NoMemory = cc in subst (λ h. HaltsIn h (answered n (Does done)) made) (sym memory) (front_all made done.takings executes.2)
-has_turn n p outer script (Err why) (Does done) (Err halt) before after made executes printed stops =
+has_turn n p outer script (Err why) (Does done) (Err halt) before after made executes printed ended =
     let memory : halt ≡ NoMemory = cc in subst (λ h. HaltsIn h (answered n (Does done)) made) (sym memory) (front_all made done.takings executes.2)
-has_turn n p outer script (Ok shown) (Halts number at w takings) result before after made executes printed stops = absurd executes
-has_turn n p outer script (Err why) (Halts number at w takings) result before after made executes printed stops = absurd executes
+has_turn n p outer script (Ok shown) (Halts number at w takings) result before after made executes printed ended = absurd executes
+has_turn n p outer script (Err why) (Halts number at w takings) result before after made executes printed ended = absurd executes
 
 pub commands_shown : (n : ℕ) (p new : Plain) (a d : Outer) (sa sd : ToldScript) (command : KeyCmd) (shown : Result Shown Refusal) (result : Result (Unit {0}) Halt) (before after : List ℕ)
     → Acts n a d (λ made. WhereTold (told_world p a sa) made (λ entries w. Executes (Ok shown) n (commanded (spot_of n entries) w command) (told_world new d sd) made))
     → OnOk result (after ≡ before ++ shown_output n new.tree.rows shown) → OnErr result (result ≡ Err NoMemory)
     → Acts n a d (λ made. WhereTold (told_world p a sa) made (λ entries w. Commands result n (Ok command) entries w (told_world new d sd) before after made))
-commands_shown n p new a d sa sd command shown result before after acts printed stops =
+commands_shown n p new a d sa sd command shown result before after acts printed ended =
     acts_told n a d (told_world p a sa) (λ entries w made. Executes (Ok shown) n (commanded (spot_of n entries) w command) (told_world new d sd) made)
     (λ entries w made. Commands result n (Ok command) entries w (told_world new d sd) before after made)
-    (λ entries w made executes. has_turn n new d sd shown (commanded (spot_of n entries) w command) result before after made executes printed stops) acts
+    (λ entries w made executes. has_turn n new d sd shown (commanded (spot_of n entries) w command) result before after made executes printed ended) acts
 
 -- a refusal in place of a command
 pub commands_refused : (n : ℕ) (p : Plain) (outer : Outer) (script : ToldScript) (why : Refusal) (result : Result (Unit {0}) Halt) (before after : List ℕ)
     → OnOk result (after ≡ before ++ shown_output n p.tree.rows (Err why)) → OnErr result (result ≡ Err NoMemory)
     → Acts n outer outer (λ made. WhereTold (told_world p outer script) made (λ entries w. Commands result n (Err (stops.Refused why)) entries w (told_world p outer script) before after made))
-commands_refused n p outer script why result before after printed stops =
+commands_refused n p outer script why result before after printed ended =
     acts_not n outer (λ made. WhereTold (told_world p outer script) made (λ entries w. Commands result n (Err (stops.Refused why)) entries w (told_world p outer script) before after made))
     (λ entries agrees. told_each p outer script (λ w. Commands result n (Err (stops.Refused why)) entries w (told_world p outer script) before after [])
-    (λ files left here f e s. has_turn n p outer script (Err why) (refused_at_once (world_of p files left here) why) result before after [] (refl, told_of p outer script files left here f e s, refl) printed stops))
+    (λ files left here f e s. has_turn n p outer script (Err why) (refused_at_once (world_of p files left here) why) result before after [] (refl, told_of p outer script files left here f e s, refl) printed ended))
 
 pub commands_not : (n : ℕ) (p : Plain) (outer : Outer) (script : ToldScript) (before after : List ℕ)
     → Acts n outer outer (λ made. WhereTold (told_world p outer script) made (λ entries w. Commands (Err NoMemory) n (Err stops.NoMemory) entries w (told_world p outer script) before after made))
@@ -255,21 +255,21 @@ carried n p new a d sa sd line result command given before after is gives acts =
 -- a line that takes nothing
 still_turn : (n : ℕ) (p : Plain) (outer : Outer) (script : ToldScript) (turn : Turn) (result : Result (Unit {0}) Halt) (before after : List ℕ) → told_world p outer script ≡ Some turn.world → turn.takings ≡ []
     → OnOk result (after ≡ before ++ turn.output) → OnErr result (result ≡ Err NoMemory) → HasAnswer result (Goes turn) (told_world p outer script) before after []
-still_turn n p outer script turn (Ok ok) before after told none printed stops = (told, printed, sym none)
-still_turn n p outer script turn (Err halt) before after told none printed stops =
+still_turn n p outer script turn (Ok ok) before after told none printed ended = (told, printed, sym none)
+still_turn n p outer script turn (Err halt) before after told none printed ended =
     let memory : halt ≡ NoMemory = cc in subst (λ h. HaltsIn h (Goes turn) []) (sym memory) (front_nil turn.takings)
 
 pub carried_still : (n : ℕ) (p : Plain) (outer : Outer) (script : ToldScript) (line : Line) (turn : World → Turn) (output : List ℕ) (result : Result (Unit {0}) Halt) (before after : List ℕ)
     → ((entries : List FoundEntry) (w : World) → answer_of n entries w line ≡ Goes (turn w)) → ((w : World) → (turn w).world ≡ w) → ((w : World) → (turn w).takings ≡ [])
     → ((w : World) → w.present.keys ≡ p → (turn w).output ≡ output) → OnOk result (after ≡ before ++ output) → OnErr result (result ≡ Err NoMemory)
     → Acts n outer outer (λ made. WhereTold (told_world p outer script) made (λ entries w. HasAnswer result (answer_of n entries w line) (told_world p outer script) before after made))
-carried_still n p outer script line turn output result before after is world none out printed stops =
+carried_still n p outer script line turn output result before after is world none out printed ended =
     acts_not n outer (λ made. WhereTold (told_world p outer script) made (λ entries w. HasAnswer result (answer_of n entries w line) (told_world p outer script) before after made))
     (λ entries agrees. told_each p outer script (λ w. HasAnswer result (answer_of n entries w line) (told_world p outer script) before after []) (λ files left here f e s.
     let w : World = world_of p files left here in
     let printed_by : OnOk result (after ≡ before ++ (turn w).output) = subst (λ (text : List ℕ). OnOk result (after ≡ before ++ text)) (sym (out w refl)) printed in
     subst (λ (answer : Answer). HasAnswer result answer (told_world p outer script) before after []) (sym (is entries w))
-    (still_turn n p outer script (turn w) result before after (told_of p outer script files left here f e s ∙ ap (λ v. Some v) (sym (world w))) (none w) printed_by stops)))
+    (still_turn n p outer script (turn w) result before after (told_of p outer script files left here f e s ∙ ap (λ v. Some v) (sym (world w))) (none w) printed_by ended)))
 
 -- bytes that spell a line
 pub spelled_ok : (n : ℕ) (p new : Plain) (a d : Outer) (sa sd : ToldScript) (line : Line) (outcome : Result Line ℕ) (result : Result (Unit {0}) Halt) (before after : List ℕ) → outcome ≡ Ok line

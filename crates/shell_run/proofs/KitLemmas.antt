@@ -254,7 +254,7 @@ where_each (Some x) (Some y) (Some z) P holds = holds x y z refl refl refl
 pub told_at : {A : Type 0} (a : Option A) (x : A) (P : A → Type 0) → a ≡ Some x → IfSome a P → P x
 told_at a x P told holds = let here : IfSome (Some x) P = subst (λ (o : Option _). IfSome o P) told holds in here
 
-some_of : {A : Type 0} (a : Option A) (P : A → Type 0) → IsSomeAnd a P → (x : A) × (a ≡ Some x) × P x
+pub some_of : {A : Type 0} (a : Option A) (P : A → Type 0) → IsSomeAnd a P → (x : A) × (a ≡ Some x) × P x
 some_of None P holds = absurd holds
 some_of (Some x) P holds = (x, refl, holds)
 
