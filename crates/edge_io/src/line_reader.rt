@@ -121,23 +121,30 @@ impl LineReader {
         ensures rest { OnOk result (IfSome (unread self.old (S.left src.old))
             (λ bytes. unread self.new (S.left src.new) ≡ Some (rest_of_prompt bytes))) }
         ensures long { IsErrOf result LineError.Long → IfSome (unread self.old (S.left src.old))
-            (λ bytes. (is_prompt (first_line bytes) ≡ true) × (MAX_LINE < length (first_line bytes))) }
+            (λ bytes. (is_prompt (first_line bytes) ≡ true)
+            × (MAX_LINE < length (first_line bytes))) }
 
         // Of any source.
-        ensures short { IfOk result (λ material. IfSome material (λ material. length material.items + 1 ≤ MAX_LINE)) }
-        ensures one_line { IfOk result (λ material. IfSome material (λ material. All (λ byte. byte ≢ line_feed) material.items)) }
-        ensures held_long { IsErrOf result LineError.Long → (is_prompt (first_line self.new) ≡ true) × (MAX_LINE < length (first_line self.new)) }
+        ensures short { IfOk result (λ material. IfSome material
+            (λ material. length material.items + 1 ≤ MAX_LINE)) }
+        ensures one_line { IfOk result (λ material. IfSome material
+            (λ material. All (λ byte. byte ≢ line_feed) material.items)) }
+        ensures held_long { IsErrOf result LineError.Long →
+            (is_prompt (first_line self.new) ≡ true) × (MAX_LINE < length (first_line self.new)) }
         ensures held_none { IfOk result (λ material. IfNone material (is_prompt self.new ≡ false)) }
 
         // Where no line is taken no byte is lost.
         ensures untaken { IfOk result (λ material. IfNone material (StartsWith self.new self.old)) }
         ensures kept { OnErr result (StartsWith self.new self.old) }
-        ensures told { OnErr result (StillTold (unread self.old (S.left src.old)) (unread self.new (S.left src.new))) }
+        ensures told { OnErr result
+            (StillTold (unread self.old (S.left src.old)) (unread self.new (S.left src.new))) }
 
         // The source's faults, as for `next`.
         ensures later { S.faults src.old ≤ S.faults src.new }
-        ensures failed { IsErrOf result LineError.Failed → Rose (S.faults src.old) (S.faults src.new) }
-        ensures no_fault { (IsErrOf result LineError.Failed → ⊥) → S.faults src.new ≡ S.faults src.old }
+        ensures failed { IsErrOf result LineError.Failed →
+            Rose (S.faults src.old) (S.faults src.new) }
+        ensures no_fault { (IsErrOf result LineError.Failed → ⊥) →
+            S.faults src.new ≡ S.faults src.old }
     {
         self.hold_some(src)?;
         if !self.pending().starts_with(b"<") {
@@ -165,9 +172,12 @@ impl LineReader {
 
     // Reads a block where nothing is held.
     fn hold_some<S: Source>(&mut self, src: &mut S) -> Result<(), Failed>
-        ensures end { OnOk result (length self.new ≡ 0 → IfSome (S.left src.old) (λ _. IsAtEnd (S.left src.new))) }
-        ensures unread { OnOk result (Keeps (unread self.old (S.left src.old)) (unread self.new (S.left src.new))) }
-        ensures told { OnErr result (StillTold (unread self.old (S.left src.old)) (unread self.new (S.left src.new))) }
+        ensures end { OnOk result (length self.new ≡ 0 →
+            IfSome (S.left src.old) (λ _. IsAtEnd (S.left src.new))) }
+        ensures unread { OnOk result
+            (Keeps (unread self.old (S.left src.old)) (unread self.new (S.left src.new))) }
+        ensures told { OnErr result
+            (StillTold (unread self.old (S.left src.old)) (unread self.new (S.left src.new))) }
         ensures kept { StartsWith self.new self.old }
         ensures cause { HasCause (S.faults src.old) (S.faults src.new) result }
     {
@@ -229,9 +239,11 @@ impl LineReader {
         requires in_len { skipped ≤ len }
         requires in_taken { len ≤ taken }
         requires in_pending { taken ≤ length self.old }
-        ensures line { IfOk result (λ line. option_map (λ line. line.items) line ≡ Some (drop skipped (take len self.old))) }
+        ensures line { IfOk result (λ line. option_map (λ line. line.items) line
+            ≡ Some (drop skipped (take len self.old))) }
         ensures rest { OnOk result (self.new ≡ drop taken self.old) }
-        ensures short { IfOk result (λ line. IfSome line (λ line. length line.items + skipped ≤ MAX_LINE)) }
+        ensures short { IfOk result (λ line. IfSome line
+            (λ line. length line.items + skipped ≤ MAX_LINE)) }
         ensures long { IsErrOf result LineError.Long → MAX_LINE < len }
         ensures not_failed { IsErrOf result LineError.Failed → ⊥ }
         ensures err { OnErr result (self.new ≡ self.old) }
