@@ -1,5 +1,5 @@
 -- A command with what was taken for it is carried out as it is defined.
-use Rattle.std.proofs.Common.{◌≡◌, ℕ, ◌++◌, List, [], Option, Some, None, Result, Ok, Err, IfSome, IsSomeAnd, OnErr, OnOk, refl, ap, sym, ◌∙◌, subst}
+use Rattle.std.proofs.Common.{◌≡◌, ℕ, Bool, ◌++◌, List, [], Option, Some, None, Result, Ok, Err, IfSome, IsSomeAnd, OnErr, OnOk, refl, ap, sym, ◌∙◌, subst}
 use Rattle.std.specs.Option.{option_and_then, option_map}
 use Rattle.std.proofs.lemmas.List.{append-nil}
 use Rattle.dataset_tree.specs.declared.refusal.Refusal.{Refusal}
@@ -8,6 +8,8 @@ use Rattle.dataset_tree.specs.declared.refusal.Stop.TheVariants as stops
 use Rattle.dataset_tree.specs.Refusal.{Gives}
 use Rattle.encryption_roots.specs.declared.kit.LineKit.{LineKit}
 use Rattle.encryption_roots.specs.declared.command.KeyCmd.{KeyCmd}
+use Rattle.encryption_roots.specs.declared.command.KeyCmd.TheVariants as commands
+use Rattle.encryption_roots.specs.declared.props.Location.{Location}
 use Rattle.key_machine.specs.Plain.{Plain}
 use Rattle.key_machine.specs.Reply.{Reply, Done, Made, Text, Refused, Reaped, Skipped}
 use Rattle.key_machine.specs.Step.{refusal_of, wanted}
@@ -306,3 +308,20 @@ replies_done stops.NoMemory reply answers = tt
 pub same_state : (T : Type 0) (stop : Stop) (before after : Plain) → state_after (let stopped : Result T Stop = Err stop in stopped) before after ≡ state_after (let stopped : Result Shown Stop = Err stop in stopped) before after
 same_state T (stops.Refused why) before after = refl
 same_state T stops.NoMemory before after = refl
+
+-- a load, which is the same from every place
+
+pub loaded_replies : (p : Plain) (command : KeyCmd) (name : List ℕ) (check_only : Bool) (place : Option Location) (kit : LineKit) → command ≡ commands.Load name check_only place
+    → ((from : Option Location) → AnswersDone (let done : Result (Unit {0}) Stop = Ok tt in done) (stepped p (commands.Load name check_only from) kit).reply) → Replies (Ok shows.Done) (stepped p command kit).reply
+loaded_replies p command name check_only place kit is answers =
+    let done : (stepped p command kit).reply ≡ Done = ap (λ (c : KeyCmd). (stepped p c kit).reply) is ∙ answers place in
+    subst IsDone (sym done) tt
+
+pub unloaded_replies : (p : Plain) (command : KeyCmd) (name : List ℕ) (check_only : Bool) (place : Option Location) (kit : LineKit) (stop : Stop) → command ≡ commands.Load name check_only place
+    → ((from : Option Location) → AnswersDone (let stopped : Result (Unit {0}) Stop = Err stop in stopped) (stepped p (commands.Load name check_only from) kit).reply) → Replies (Err stop) (stepped p command kit).reply
+unloaded_replies p command name check_only place kit stop is answers =
+    subst (λ (c : KeyCmd). Replies (Err stop) (stepped p c kit).reply) (sym is) (replies_done stop (stepped p (commands.Load name check_only place) kit).reply (answers place))
+
+pub loaded_state : (T : Type 0) (p new : Plain) (command : KeyCmd) (name : List ℕ) (check_only : Bool) (place : Option Location) (kit : LineKit) (result : Result T Stop) → command ≡ commands.Load name check_only place
+    → ((from : Option Location) → new ≡ state_after result p (stepped p (commands.Load name check_only from) kit).state) → new ≡ state_after result p (stepped p command kit).state
+loaded_state T p new command name check_only place kit result is state = state place ∙ ap (λ (c : KeyCmd). state_after result p (stepped p c kit).state) (sym is)

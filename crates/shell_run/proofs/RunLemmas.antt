@@ -27,7 +27,7 @@ use Rattle.shell_run.specs.declared.found.FoundEntry.{FoundEntry}
 use Rattle.shell_run.specs.Answers.{Acts, Agrees, HaltsIn, HasAnswer, WhereTold, answer_takings}
 use Rattle.shell_run.specs.Endings.{ending_of, status_of}
 use Rattle.shell_run.specs.Outer.{Outer}
-use Rattle.shell_run.specs.Progress.{Goes as GoesOn, Taken, Ends as EndsSo, TookCut, NoLine, IsNextLine, NoneTaken, HasReplied, HasCut, Replied, LineRan, RunsFrom, StartsNot}
+use Rattle.shell_run.specs.Progress.{Goes as GoesOn, Taken, Ends as EndsSo, TookCut, GoesPast, NoLine, IsNextLine, NoneTaken, HasReplied, HasCut, Replied, LineRan, RunsFrom, StartsNot}
 use Rattle.shell_run.specs.Ran.{IsAnswered, IsFront, IsCut, Came, WroteLast}
 use Rattle.shell_run.specs.Script.{Script, ToldScript, Given, Gives, Stops, prompted, prompted_by, prompted_before, past_line, script_of, script_told, within_limits}
 use Rattle.shell_run.specs.Takings.{Taking, has_entry, entries_of, fills_of}
@@ -605,3 +605,11 @@ words_not_run e words world t outer starts = record { made = []; takes = takes_n
   each : (found : List FoundEntry) (world : Option World) → IfSome world (λ w. EndsSo e (transcript words found w) [] t t)
   each found None = tt
   each found (Some w) = not_begun e words found w t starts
+
+-- where the script is told it was read to its end
+pub end_told : (e : Ending) (first before after : ToldScript) → (is_some first.ahead ≡ true → is_some before.ahead ≡ true) → GoesPast (Some e) before after → e ≡ Done → IfSome first.ahead (λ ahead. after.ahead ≡ Some [])
+end_told e first before after stays past done = by_first first.ahead before.ahead stays (let here : GoesPast (Some Done) before after = subst (λ (x : Ending). GoesPast (Some x) before after) done past in here) where
+  by_first : (a b : Option (List (List ℕ))) → (is_some a ≡ true → is_some b ≡ true) → IfSome b (λ ahead. after.ahead ≡ Some []) → IfSome a (λ ahead. after.ahead ≡ Some [])
+  by_first None b stays end = tt
+  by_first (Some ahead) None stays end = absurd (let not : is_some None ≡ true = stays refl in cc)
+  by_first (Some ahead) (Some more) stays end = end
