@@ -17,12 +17,15 @@ use Rattle.key_machine.specs.Told.{Wanted}
 use Rattle.key_store.specs.declared.needs.Needs.{Needs}
 use Rattle.key_store.specs.Calls.{stepped, state_after, needs_of, needed, needed_unless, AnswersMade, AnswersDone}
 use Rattle.shell_lines.specs.declared.line.Line.{Line}
+use Rattle.shell_lines.specs.declared.line.LineStop.{LineStop}
+use Rattle.shell_lines.specs.declared.line.LineStop.TheVariants as line_stops
+use Rattle.shell_lines.specs.Grammar.{Spells}
 use Rattle.shell_run.specs.declared.command.Shown.{Shown}
 use Rattle.shell_run.specs.declared.command.Shown.TheVariants as shows
 use Rattle.shell_run.specs.declared.ending.Halt.{Halt}
 use Rattle.shell_run.specs.declared.ending.Halt.TheVariants.{BadLine, ReadFault, NoMemory}
 use Rattle.shell_run.specs.declared.found.FoundEntry.{FoundEntry}
-use Rattle.shell_run.specs.Answers.{Acts, Agrees, Commands, Executes, GivesKit, HaltsIn, HasAnswer, IsDone, Replies, TakesKit, WhereTold, answer_takings, settled, shown_output, spot_of, supply_takings, wants_of}
+use Rattle.shell_run.specs.Answers.{Acts, Agrees, Commands, Executes, GivesKit, HaltsIn, HasAnswer, IsDone, Replies, ShowsStop, TakesKit, WhereTold, answer_takings, settled, shown_output, spot_of, supply_takings, unspelled, wants_of}
 use Rattle.shell_run.specs.Outer.{Outer, Takes, left_after}
 use Rattle.shell_run.specs.Ran.{IsFront}
 use Rattle.shell_run.specs.Script.{Script, ToldScript, script_told}
@@ -215,20 +218,18 @@ commands_shown n p new a d sa sd command shown result before after acts printed 
     (λ entries w made. Commands result n (Ok command) entries w (told_world new d sd) before after made)
     (λ entries w made executes. has_turn n new d sd shown (commanded (spot_of n entries) w command) result before after made executes printed ended) acts
 
--- a refusal in place of a command
-pub commands_refused : (n : ℕ) (p : Plain) (outer : Outer) (script : ToldScript) (why : Refusal) (result : Result (Unit {0}) Halt) (before after : List ℕ)
-    → OnOk result (after ≡ before ++ shown_output n p.tree.rows (Err why)) → OnErr result (result ≡ Err NoMemory)
-    → Acts n outer outer (λ made. WhereTold (told_world p outer script) made (λ entries w. Commands result n (Err (stops.Refused why)) entries w (told_world p outer script) before after made))
-commands_refused n p outer script why result before after printed ended =
+-- a refusal in place of a command, or want of memory
+pub commands_stopped : (n : ℕ) (p : Plain) (outer : Outer) (script : ToldScript) (stop : Stop) (result : Result (Unit {0}) Halt) (before after : List ℕ)
+    → OnOk result (ShowsStop n p.tree.rows stop before after) → OnErr result (result ≡ Err NoMemory)
+    → Acts n outer outer (λ made. WhereTold (told_world p outer script) made (λ entries w. Commands result n (Err stop) entries w (told_world p outer script) before after made))
+commands_stopped n p outer script (stops.Refused why) result before after printed ended =
     acts_not n outer (λ made. WhereTold (told_world p outer script) made (λ entries w. Commands result n (Err (stops.Refused why)) entries w (told_world p outer script) before after made))
     (λ entries agrees. told_each p outer script (λ w. Commands result n (Err (stops.Refused why)) entries w (told_world p outer script) before after [])
     (λ files left here f e s. has_turn n p outer script (Err why) (refused_at_once (world_of p files left here) why) result before after [] (refl, told_of p outer script files left here f e s, refl) printed ended))
-
-pub commands_not : (n : ℕ) (p : Plain) (outer : Outer) (script : ToldScript) (before after : List ℕ)
-    → Acts n outer outer (λ made. WhereTold (told_world p outer script) made (λ entries w. Commands (Err NoMemory) n (Err stops.NoMemory) entries w (told_world p outer script) before after made))
-commands_not n p outer script before after =
-    acts_not n outer (λ made. WhereTold (told_world p outer script) made (λ entries w. Commands (Err NoMemory) n (Err stops.NoMemory) entries w (told_world p outer script) before after made))
-    (λ entries agrees. told_each p outer script (λ w. Commands (Err NoMemory) n (Err stops.NoMemory) entries w (told_world p outer script) before after []) (λ files left here f e s. (refl, refl)))
+commands_stopped n p outer script stops.NoMemory (Ok done) before after printed ended = absurd printed
+commands_stopped n p outer script stops.NoMemory (Err halt) before after printed ended =
+    acts_not n outer (λ made. WhereTold (told_world p outer script) made (λ entries w. Commands (Err halt) n (Err stops.NoMemory) entries w (told_world p outer script) before after made))
+    (λ entries agrees. told_each p outer script (λ w. Commands (Err halt) n (Err stops.NoMemory) entries w (told_world p outer script) before after []) (λ files left here f e s. (refl, ended)))
 
 -- a command that a word gives
 named_answer : (n : ℕ) (result : Result (Unit {0}) Halt) (command : Result KeyCmd Stop) (given : Result KeyCmd Refusal) (entries : List FoundEntry) (w : World) (new : Option World) (before after : List ℕ) (made : List Taking) → Gives command given
@@ -280,18 +281,14 @@ pub spelled_ok : (n : ℕ) (p new : Plain) (a d : Outer) (sa sd : ToldScript) (l
 spelled_ok n p new a d sa sd line outcome result before after spells acts =
     subst (λ (o : Result Line ℕ). Acts n a d (λ made. WhereTold (told_world p a sa) made (λ entries w. HasAnswer result (answer_if n entries w o) (told_world new d sd) before after made))) (sym spells) acts
 
--- bytes that spell none
-pub spelled_bad : (n at : ℕ) (p : Plain) (outer : Outer) (script : ToldScript) (outcome : Result Line ℕ) (before after : List ℕ) → outcome ≡ Err at
-    → Acts n outer outer (λ made. WhereTold (told_world p outer script) made (λ entries w. HasAnswer (Err (BadLine n at)) (answer_if n entries w outcome) (told_world p outer script) before after made))
-spelled_bad n at p outer script outcome before after bad =
+-- bytes that spell none, or for which memory was wanting
+pub spelled_not : (n : ℕ) (p : Plain) (outer : Outer) (script : ToldScript) (stop : LineStop) (outcome : Result Line ℕ) (before after : List ℕ) → Spells (Err stop) outcome
+    → Acts n outer outer (λ made. WhereTold (told_world p outer script) made (λ entries w. HasAnswer (Err (unspelled n stop)) (answer_if n entries w outcome) (told_world p outer script) before after made))
+spelled_not n p outer script (line_stops.Bad at) outcome before after bad =
     acts_not n outer (λ made. WhereTold (told_world p outer script) made (λ entries w. HasAnswer (Err (BadLine n at)) (answer_if n entries w outcome) (told_world p outer script) before after made))
     (λ entries agrees. told_each p outer script (λ w. HasAnswer (Err (BadLine n at)) (answer_if n entries w outcome) (told_world p outer script) before after [])
     (λ files left here f e s. subst (λ (o : Result Line ℕ). HaltsIn (BadLine n at) (answer_if n entries (world_of p files left here) o) []) (sym bad) (refl, refl, refl)))
-
--- memory was wanting to read them
-pub spelled_not : (n : ℕ) (p : Plain) (outer : Outer) (script : ToldScript) (outcome : Result Line ℕ) (before after : List ℕ)
-    → Acts n outer outer (λ made. WhereTold (told_world p outer script) made (λ entries w. HasAnswer (Err NoMemory) (answer_if n entries w outcome) (told_world p outer script) before after made))
-spelled_not n p outer script outcome before after =
+spelled_not n p outer script line_stops.NoMemory outcome before after none =
     acts_not n outer (λ made. WhereTold (told_world p outer script) made (λ entries w. HasAnswer (Err NoMemory) (answer_if n entries w outcome) (told_world p outer script) before after made))
     (λ entries agrees. told_each p outer script (λ w. HasAnswer (Err NoMemory) (answer_if n entries w outcome) (told_world p outer script) before after []) (λ files left here f e s. front_nil _))
 

@@ -12,6 +12,8 @@ use Rattle.edge_io.specs.declared.errors.Failed.{Failed}
 use Rattle.encryption_roots.specs.declared.props.Location.{Location}
 use Rattle.encryption_roots.specs.declared.props.Location.TheVariants.{Prompt, File}
 use Rattle.encryption_roots.specs.declared.command.KeyCmd.{KeyCmd}
+use Rattle.encryption_roots.specs.declared.command.KeyCmd.TheVariants as commands
+use Rattle.dataset_tree.specs.SetName.{named}
 use Rattle.encryption_roots.specs.declared.kit.Fetched.{Fetched}
 use Rattle.dataset_tree.specs.declared.refusal.Refusal.{Refusal}
 use Rattle.key_machine.specs.Step.{refusal_of, wanted}
@@ -24,7 +26,8 @@ use Rattle.shell_run.specs.declared.ending.Ending.TheVariants.{Done, Usage, BadL
 use Rattle.shell_run.specs.declared.ending.Halt.{Halt}
 use Rattle.shell_run.specs.declared.ending.Halt.TheVariants as halts
 use Rattle.shell_run.specs.declared.found.FoundEntry.{FoundEntry}
-use Rattle.shell_run.specs.Answers.{Acts, Agrees, HaltsIn, HasAnswer, WhereTold, answer_takings}
+use Rattle.shell_run.specs.declared.found.FoundKind.TheVariants.{OldKey, NewKey}
+use Rattle.shell_run.specs.Answers.{Acts, Agrees, HaltsIn, HasAnswer, WhereTold, answer_takings, spot_of}
 use Rattle.shell_run.specs.Endings.{ending_of, status_of}
 use Rattle.shell_run.specs.Outer.{Outer}
 use Rattle.shell_run.specs.Progress.{Goes as GoesOn, Taken, Ends as EndsSo, TookCut, GoesPast, NoLine, IsNextLine, NoneTaken, HasReplied, HasCut, Replied, LineRan, RunsFrom, StartsNot}
@@ -32,7 +35,7 @@ use Rattle.shell_run.specs.Ran.{IsAnswered, IsFront, IsCut, Came, WroteLast}
 use Rattle.shell_run.specs.Script.{Script, ToldScript, Given, Gives, Stops, prompted, prompted_by, prompted_before, past_line, script_of, script_told, within_limits}
 use Rattle.shell_run.specs.Takings.{Taking, has_entry, entries_of, fills_of}
 use Rattle.shell_run.specs.Texts.{bad_line}
-use Rattle.shell_run.specs.Transcript.{World, world_of, told_world, Spot, at_prompt, material_at, Supply, Has, Lacks, with_new, with_old, kit_of, Outcome, Does, Halts, supplied, unless_refused, commanded, commanded_if, Run, Turn, Answer, Goes, Ends, answered, preceded, replies_of, made_in, goes_on, checked, answer_of, answer_if, run_over, run_before, run_within, run_from, transcript}
+use Rattle.shell_run.specs.Transcript.{World, world_of, told_world, Spot, taking_at, at_prompt, material_at, Supply, Has, Lacks, with_new, with_old, kit_of, Outcome, Does, Halts, supplied, unless_refused, commanded, command_named, commanded_if, key_answer, Run, Turn, Answer, Goes, Ends, answered, preceded, replies_of, made_in, goes_on, checked, answer_of, answer_if, run_over, run_before, run_within, run_from, transcript}
 use Rattle.shell_run.proofs.CommandLemmas.{acts_told, front_nil, told_each, told_of}
 use Rattle.shell_run.proofs.KitLemmas.{told_at}
 use Rattle.shell_run.proofs.ScriptLemmas.{limit_bad, limit_within}
@@ -258,7 +261,8 @@ given_below k m (Stops number at) below within = tt
 old_within : (k : ℕ) (spot : Spot) (files : List (List ℕ × List ℕ)) (left : List ℕ) (wants : Wanted) (given : Given Fetched) → GivenWithin k given → SupplyWithin k (with_old spot files left wants given)
 old_within k spot files left wants (Stops number at) within = tt
 old_within k spot files left wants (Gives old script) within =
-    new_within k spot left wants old _ (given_below k (length script.ahead) _ within (material_within _ files script wants.new_place))
+    new_within k spot left wants old (material_at (taking_at spot NewKey) files script wants.new_place)
+    (given_below k (length script.ahead) (material_at (taking_at spot NewKey) files script wants.new_place) within (material_within (taking_at spot NewKey) files script wants.new_place))
 
 supplied_within : (k : ℕ) (w : World) (command : KeyCmd) (supply : Supply) → SupplyWithin k supply → OutcomeWithin k (supplied w command supply)
 supplied_within k w command (Has kit left takings) within = within
@@ -268,7 +272,8 @@ commanded_within : (spot : Spot) (w : World) (command : KeyCmd) (refusal : Optio
 commanded_within spot w command (Some why) = omega arith
 commanded_within spot w command None =
     supplied_within (length w.script.ahead) w command (kit_of spot w.files w.entropy w.script (wanted w.present.keys command))
-    (old_within (length w.script.ahead) spot w.files w.entropy (wanted w.present.keys command) _ (material_within _ w.files w.script (wanted w.present.keys command).old_place))
+    (old_within (length w.script.ahead) spot w.files w.entropy (wanted w.present.keys command) (material_at (taking_at spot OldKey) w.files w.script (wanted w.present.keys command).old_place)
+    (material_within (taking_at spot OldKey) w.files w.script (wanted w.present.keys command).old_place))
 
 commanded_if_within : (spot : Spot) (w : World) (given : Result KeyCmd Refusal) → OutcomeWithin (length w.script.ahead) (commanded_if spot w given)
 commanded_if_within spot w (Ok command) = commanded_within spot w command (refusal_of w.present.keys command)
@@ -278,13 +283,17 @@ answered_within : (n k : ℕ) (outcome : Outcome) → OutcomeWithin k outcome �
 answered_within n k (Does done) within = within
 answered_within n k (Halts number at w takings) within = tt
 
+key_within : (n : ℕ) (entries : List FoundEntry) (w : World) (command : List ℕ → KeyCmd) (word : List ℕ) → AnswerWithin (length w.script.ahead) (key_answer n entries w command word)
+key_within n entries w command word =
+    answered_within n (length w.script.ahead) (commanded_if (spot_of n entries) w (command_named command (named word))) (commanded_if_within (spot_of n entries) w (command_named command (named word)))
+
 line_within : (n : ℕ) (entries : List FoundEntry) (w : World) (line : Line) → AnswerWithin (length w.script.ahead) (answer_of n entries w line)
 line_within n entries w Silent = omega arith
 line_within n entries w ListSets = omega arith
-line_within n entries w (Create word opts) = answered_within n (length w.script.ahead) _ (commanded_if_within _ w _)
-line_within n entries w (LoadKey word check_only place) = answered_within n (length w.script.ahead) _ (commanded_if_within _ w _)
-line_within n entries w (UnloadKey word) = answered_within n (length w.script.ahead) _ (commanded_if_within _ w _)
-line_within n entries w (Get prop word) = answered_within n (length w.script.ahead) _ (commanded_if_within _ w _)
+line_within n entries w (Create word opts) = key_within n entries w (λ name. commands.Create name opts) word
+line_within n entries w (LoadKey word check_only place) = key_within n entries w (λ name. commands.Load name check_only place) word
+line_within n entries w (UnloadKey word) = key_within n entries w (λ name. commands.Unload name) word
+line_within n entries w (Get prop word) = key_within n entries w (λ name. commands.Get name prop) word
 
 answer_within : (n : ℕ) (entries : List FoundEntry) (w : World) (outcome : Result Line ℕ) → AnswerWithin (length w.script.ahead) (answer_if n entries w outcome)
 answer_within n entries w (Ok line) = line_within n entries w line
@@ -611,5 +620,5 @@ pub end_told : (e : Ending) (first before after : ToldScript) → (is_some first
 end_told e first before after stays past done = by_first first.ahead before.ahead stays (let here : GoesPast (Some Done) before after = subst (λ (x : Ending). GoesPast (Some x) before after) done past in here) where
   by_first : (a b : Option (List (List ℕ))) → (is_some a ≡ true → is_some b ≡ true) → IfSome b (λ ahead. after.ahead ≡ Some []) → IfSome a (λ ahead. after.ahead ≡ Some [])
   by_first None b stays end = tt
-  by_first (Some ahead) None stays end = absurd (let not : is_some None ≡ true = stays refl in cc)
+  by_first (Some ahead) None stays end = absurd (let none : false ≡ true = stays refl in cc)
   by_first (Some ahead) (Some more) stays end = end

@@ -25,7 +25,8 @@ use Rattle.key_machine.specs.Fair.{WasAsked, SeedWasAsked}
 use Rattle.key_machine.specs.Reply.{Reply, Done, Made, Text, Refused, Reaped, Skipped}
 use Rattle.key_machine.specs.Told.{Wanted}
 use Rattle.key_store.specs.declared.needs.Needs.{Needs}
-use Rattle.shell_lines.specs.declared.line.Line.{Line}
+use Rattle.shell_lines.specs.declared.line.LineStop.{LineStop}
+use Rattle.shell_lines.specs.declared.line.LineStop.TheVariants as line_stops
 use Rattle.shell_run.specs.declared.command.Shown.{Shown}
 use Rattle.shell_run.specs.declared.command.Shown.TheVariants as shows
 use Rattle.shell_run.specs.declared.ending.Halt.{Halt}
@@ -234,3 +235,13 @@ abbrev pub shown_output : ℕ → List Row → Result Shown Why → List ℕ
 shown_output n rows (Ok shows.Done) = ok_line n
 shown_output n rows (Ok (shows.Text text)) = text_line n text
 shown_output n rows (Err why) = error_line n rows why
+
+-- a refusal in place of a command is printed; want of memory isn't
+abbrev pub ShowsStop : ℕ → List Row → Stop → (before after : List ℕ) → Type 0
+ShowsStop n rows (stops.Refused why) before after = after ≡ before ++ shown_output n rows (Err why)
+ShowsStop n rows stops.NoMemory before after = ⊥
+
+-- how the run ends whose line n has bytes that spell none
+abbrev pub unspelled : ℕ → LineStop → Halt
+unspelled n (line_stops.Bad at) = BadLine n at
+unspelled n line_stops.NoMemory = NoMemory

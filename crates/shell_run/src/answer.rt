@@ -7,7 +7,7 @@ ghost use Rattle.dataset_tree.specs.SetName.{named};
 ghost use Rattle.encryption_roots.specs.declared.command.KeyCmd.TheVariants as commands;
 ghost use Rattle.shell_lines.specs.Grammar.{line_of};
 ghost use Rattle.shell_lines.specs.Sized.{HasRecordSize};
-ghost use Rattle.shell_run.specs.Answers.{Acts, Commands, HasAnswer, IsSized, Reads, WhereTold, shown_output};
+ghost use Rattle.shell_run.specs.Answers.{Acts, Commands, HasAnswer, IsSized, Reads, ShowsStop, WhereTold, shown_output, unspelled};
 ghost use Rattle.shell_run.specs.Texts.{ok_line, set_line};
 ghost use Rattle.shell_run.specs.Transcript.{answer_if, answer_of, told_world, command_named};
 
@@ -41,8 +41,17 @@ pub(crate) fn answer<W: Outside>(
 {
     match parse_line(alloc, bytes, 0) {
         Ok(line) => carry_out(alloc, keys, outside, number, &line, output),
-        Err(LineStop::Bad { at }) => Err(Halt::BadLine { number, at }),
-        Err(LineStop::NoMemory) => Err(Halt::NoMemory),
+        Err(stop) => Err(halt_of(number, stop)),
+    }
+}
+
+/// How a run ends in whose line of this number some bytes spell no line.
+fn halt_of(number: u32, stop: LineStop) -> Halt
+    ensures { result ≡ unspelled number stop }
+{
+    match stop {
+        LineStop::Bad { at } => Halt::BadLine { number, at },
+        LineStop::NoMemory => Halt::NoMemory,
     }
 }
 
@@ -119,8 +128,23 @@ fn run_command<W: Outside>(
             Ok(shown) => push_shown(output, number, keys, &shown),
             Err(halt) => Err(halt),
         },
-        Err(Stop::Refused(why)) => push_shown(output, number, keys, &Err(why)),
-        Err(Stop::NoMemory) => Err(Halt::NoMemory),
+        Err(stop) => push_stop(output, number, keys, stop),
+    }
+}
+
+/// Adds why there is no command.
+fn push_stop(
+    output: &mut Vec<u8>,
+    number: u32,
+    keys: &KeyState,
+    stop: Stop,
+) -> Result<(), Halt>
+    ensures text { OnOk result (ShowsStop number keys.now.tree.rows stop output.old.items output.new.items) }
+    ensures stops { OnErr result (result ≡ Err Halt.NoMemory) }
+{
+    match stop {
+        Stop::Refused(why) => push_shown(output, number, keys, &Err(why)),
+        Stop::NoMemory => Err(Halt::NoMemory),
     }
 }
 

@@ -78,7 +78,7 @@ pub(crate) trait Outside {
 #[derive(Drop)]
 pub(crate) struct Lent<'a, S: Source, F: KeyFiles, E: Entropy> {
     pub(crate) next: u32,
-    pub(crate) reader: LineReader,
+    pub(crate) reader: &'a mut LineReader,
     pub(crate) source: &'a mut S,
     pub(crate) files: &'a mut F,
     pub(crate) entropy: &'a mut E,
@@ -94,7 +94,7 @@ impl<S: Source, F: KeyFiles, E: Entropy> Outside for Lent<'_, S, F, E> {
       found = lent.found.now;
     } };
 
-    ghost script = { λ lent. script_of lent.next (unread lent.reader (S.left lent.source.now)) };
+    ghost script = { λ lent. script_of lent.next (unread lent.reader.now (S.left lent.source.now)) };
 
     ghost faults = { λ lent. S.faults lent.source.now };
 
@@ -105,7 +105,7 @@ impl<S: Source, F: KeyFiles, E: Entropy> Outside for Lent<'_, S, F, E> {
     }
 
     fn take_line(&mut self) -> Result<Vec<u8>, Ending> {
-        take_line(&mut self.next, &mut self.reader, self.source)
+        take_line(&mut self.next, self.reader, self.source)
     }
 
     fn fetch(
@@ -116,7 +116,7 @@ impl<S: Source, F: KeyFiles, E: Entropy> Outside for Lent<'_, S, F, E> {
     ) -> Result<Fetched, Halt> {
         match place {
             Location::Prompt => {
-                match take_prompt(alloc, &mut self.next, &mut self.reader, self.source) {
+                match take_prompt(alloc, &mut self.next, self.reader, self.source) {
                     Ok(material) => Ok(Fetched::Got(Material::new(material))),
                     Err(halt) => Err(halt),
                 }

@@ -137,8 +137,8 @@ fn run_words<S: Source, O: Sink, F: KeyFiles, E: Entropy>(
     ensures sink { SinkFaults (Some result) (O.faults out.old) (O.faults out.new) }
 {
     match start(alloc, words) {
-        Ok((reader, keys)) => {
-            run_script(alloc, reader, keys, script, out, files, entropy, found)
+        Ok((mut reader, mut keys)) => {
+            run_script(alloc, &mut reader, &mut keys, script, out, files, entropy, found)
         }
         Err(ending) => ending,
     }
@@ -147,16 +147,16 @@ fn run_words<S: Source, O: Sink, F: KeyFiles, E: Entropy>(
 /// Runs a script, and says how it ended.
 fn run_script<S: Source, O: Sink, F: KeyFiles, E: Entropy>(
     alloc: Global,
-    reader: LineReader,
-    keys: KeyState,
+    reader: &mut LineReader,
+    keys: &mut KeyState,
     script: &mut S,
     out: &mut O,
     files: &mut F,
     entropy: &mut E,
     found: &mut Found,
 ) -> Ending
-    requires reader { reader ≡ [] }
-    requires keys { keys ≡ no_keys }
+    requires reader { reader.old ≡ [] }
+    requires keys { keys.old ≡ no_keys }
     ensures told { let before : Outer = record {
       files = F.files files.old;
       fetches = calls_of (F.calls files.old) (F.failing files.old) (F.faults files.old);
@@ -179,7 +179,6 @@ fn run_script<S: Source, O: Sink, F: KeyFiles, E: Entropy>(
     ensures source { SourceFaults (Some result) (S.faults script.old) (S.faults script.new) }
     ensures sink { SinkFaults (Some result) (O.faults out.old) (O.faults out.new) }
 {
-    let mut keys = keys;
     let mut outside = Lent {
         next: 1,
         reader,
@@ -188,7 +187,7 @@ fn run_script<S: Source, O: Sink, F: KeyFiles, E: Entropy>(
         entropy,
         found,
     };
-    let ending = run_lines(alloc, &mut keys, out, &mut outside);
+    let ending = run_lines(alloc, keys, out, &mut outside);
     ending
 }
 

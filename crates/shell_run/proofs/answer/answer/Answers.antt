@@ -1,5 +1,5 @@
 use Rattle.shell_lines.specs.Grammar.{line_of}
-use Rattle.shell_run.proofs.CommandLemmas.{spelled_bad, spelled_not, spelled_ok}
+use Rattle.shell_run.proofs.CommandLemmas.{spelled_not, spelled_ok}
 use Rattle.shell_run.proofs.answer.answer.Goals as goal
 
 pub returns-in-Ok-clause-told : goal.returns-in-Ok-clause-told
@@ -7,11 +7,7 @@ returns-in-Ok-clause-told g c =
     spelled_ok c.args.number c.args.keys.now c.carry_out.new.keys (g.W.Outside.told c.args.outside.now) (g.W.Outside.told c.carry_out.new.outside) (g.W.Outside.script c.args.outside.now) (g.W.Outside.script c.carry_out.new.outside)
     c.in-Ok.line (line_of c.args.bytes.now 0) c.carry_out.result c.args.output.now.items c.carry_out.new.output.items c.in-Ok.ensures.spells c.carry_out.ensures.told
 
-pub returns-in-Err-Bad-clause-told : goal.returns-in-Err-Bad-clause-told
-returns-in-Err-Bad-clause-told g c =
-    spelled_bad c.args.number c.in-Err-Bad.at c.args.keys.now (g.W.Outside.told c.args.outside.now) (g.W.Outside.script c.args.outside.now) (line_of c.args.bytes.now 0) c.args.output.now.items c.args.output.now.items
-    (rw c.in-Err-Bad.field-0-is at c.in-Err-Bad.ensures.spells)
-
-pub returns-in-Err-NoMemory-clause-told : goal.returns-in-Err-NoMemory-clause-told
-returns-in-Err-NoMemory-clause-told g c =
-    spelled_not c.args.number c.args.keys.now (g.W.Outside.told c.args.outside.now) (g.W.Outside.script c.args.outside.now) (line_of c.args.bytes.now 0) c.args.output.now.items c.args.output.now.items
+pub returns-in-Err-clause-told : goal.returns-in-Err-clause-told
+returns-in-Err-clause-told g c =
+    rw c.halt_of.ensures
+    (spelled_not c.args.number c.args.keys.now (g.W.Outside.told c.args.outside.now) (g.W.Outside.script c.args.outside.now) c.in-Err.stop (line_of c.args.bytes.now 0) c.args.output.now.items c.args.output.now.items c.in-Err.ensures.spells)

@@ -9,15 +9,15 @@ returns-in-Ok-write_all-clause-told g c =
     (told_world c.answer.new.keys (g.W.Outside.told c.answer.new.outside) (g.W.Outside.script c.answer.new.outside)) (λ entries w. answer_if c.args.number entries w (line_of c.args.line.now 0)) c.answer.new.output.items _ _
     (rw c.as_slice.ensures.value at c.in-Ok-write_all.ensures.written) (rw c.clear.ensures.items at c.in-Ok.ensures.told)
 
-pub returns-in-Err-clause-told : goal.returns-in-Err-clause-told
-returns-in-Err-clause-told g c =
+pub returns-in-Err-write_all-clause-told : goal.returns-in-Err-write_all-clause-told
+returns-in-Err-write_all-clause-told g c =
     replied_cut c.args.number (g.W.Outside.told c.args.outside.now) (g.W.Outside.told c.answer.new.outside) (told_world c.args.keys.now (g.W.Outside.told c.args.outside.now) (g.W.Outside.script c.args.outside.now))
     (told_world c.answer.new.keys (g.W.Outside.told c.answer.new.outside) (g.W.Outside.script c.answer.new.outside)) (λ entries w. answer_if c.args.number entries w (line_of c.args.line.now 0)) c.answer.new.output.items _ _
-    (rw c.as_slice.ensures.value at c.in-Err.ensures.part) (rw c.clear.ensures.items at c.in-Ok.ensures.told)
+    (rw c.as_slice.ensures.value at c.in-Err-write_all.ensures.part) (rw c.clear.ensures.items at c.in-Ok.ensures.told)
 
-pub returns-in-Err-answer-clause-told : goal.returns-in-Err-answer-clause-told
-returns-in-Err-answer-clause-told g c =
+pub returns-in-Err-clause-told : goal.returns-in-Err-clause-told
+returns-in-Err-clause-told g c =
     rw c.ending.ensures
     (replied_halt c.args.number (g.W.Outside.told c.args.outside.now) (g.W.Outside.told c.answer.new.outside) (told_world c.args.keys.now (g.W.Outside.told c.args.outside.now) (g.W.Outside.script c.args.outside.now))
-    (told_world c.answer.new.keys (g.W.Outside.told c.answer.new.outside) (g.W.Outside.script c.answer.new.outside)) (λ entries w. answer_if c.args.number entries w (line_of c.args.line.now 0)) c.in-Err-answer.halt
-    c.clear.new.self.items c.answer.new.output.items _ c.in-Err-answer.ensures.told)
+    (told_world c.answer.new.keys (g.W.Outside.told c.answer.new.outside) (g.W.Outside.script c.answer.new.outside)) (λ entries w. answer_if c.args.number entries w (line_of c.args.line.now 0)) c.in-Err.halt
+    c.clear.new.self.items c.answer.new.output.items _ c.in-Err.ensures.told)

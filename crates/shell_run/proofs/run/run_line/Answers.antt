@@ -11,4 +11,5 @@ returns-in-Ok-clause-told g c =
 pub returns-in-Err-clause-told : goal.returns-in-Err-clause-told
 returns-in-Err-clause-told g c =
     rw c.in-Err.ensures.told
-    (line_not_taken c.in-Err.ending c.args.keys.now (g.W.Outside.told c.args.outside.now) (g.W.Outside.script c.args.outside.now) (g.W.Outside.script c.take_line.new.self) _ _ c.in-Err.ensures.none)
+    (line_not_taken c.in-Err.ending c.args.keys.now (g.W.Outside.told c.args.outside.now) (g.W.Outside.script c.args.outside.now) (g.W.Outside.script c.take_line.new.self)
+    (told_world c.args.keys.now (g.W.Outside.told c.args.outside.now) (g.W.Outside.script c.args.outside.now)) (g.O.Sink.taken c.args.out.now) c.in-Err.ensures.none)
