@@ -74,18 +74,18 @@ pub(crate) trait Outside {
         ensures holds { holds self.new ≡ holds self.old };
 }
 
-/// What is lent to a run, with a reader of the script and the number of the next line.
+/// What is lent to a run, with a reader of the script and the number of the next line. Each reference has a lifetime of its own.
 #[derive(Drop)]
-pub(crate) struct Lent<'a, S: Source, F: KeyFiles, E: Entropy> {
+pub(crate) struct Lent<'r, 's, 'f, 'e, 'l, S: Source, F: KeyFiles, E: Entropy> {
     pub(crate) next: u32,
-    pub(crate) reader: &'a mut LineReader,
-    pub(crate) source: &'a mut S,
-    pub(crate) files: &'a mut F,
-    pub(crate) entropy: &'a mut E,
-    pub(crate) found: &'a mut Found,
+    pub(crate) reader: &'r mut LineReader,
+    pub(crate) source: &'s mut S,
+    pub(crate) files: &'f mut F,
+    pub(crate) entropy: &'e mut E,
+    pub(crate) found: &'l mut Found,
 }
 
-impl<S: Source, F: KeyFiles, E: Entropy> Outside for Lent<'_, S, F, E> {
+impl<S: Source, F: KeyFiles, E: Entropy> Outside for Lent<'_, '_, '_, '_, '_, S, F, E> {
     ghost told = { λ lent. record {
       files = F.files lent.files.now;
       fetches = calls_of (F.calls lent.files.now) (F.failing lent.files.now) (F.faults lent.files.now);
