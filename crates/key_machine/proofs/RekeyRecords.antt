@@ -35,7 +35,7 @@ rising-map change (entry ∷ entries) rising =
     AllPairs-cons (λ a b. a.0 < b.0) (entry.0, change entry) (map (λ e. (e.0, change e)) entries) above rest
 
 -- whether a value is there, by the ids alone
-there_by_ids : {X : Type 0} (id : ℕ) (entries : List (ℕ × X)) → is_some (at_id id entries) ≡ list_any (λ at. at == id) (map (λ entry. entry.0) entries)
+pub there_by_ids : {X : Type 0} (id : ℕ) (entries : List (ℕ × X)) → is_some (at_id id entries) ≡ list_any (λ at. at == id) (map (λ entry. entry.0) entries)
 there_by_ids id [] = refl
 there_by_ids id (entry ∷ entries) =
     let rest = there_by_ids id entries in
