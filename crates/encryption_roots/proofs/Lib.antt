@@ -1,3 +1,4 @@
 pub mod ByIdLemmas
 pub mod OwnerLemmas
 pub mod PathLemmas
+pub mod OwnedLemmas

@@ -62,7 +62,7 @@ fewer_next id next (first ∷ rows) row found below =
     omega arith) cases
 
 -- where a walk can meet no row, none has the id
-none_left : (id : ℕ) (rows : List Row) → up_to id rows ≡ 0 → row_of id rows ≡ None
+pub none_left : (id : ℕ) (rows : List Row) → up_to id rows ≡ 0 → row_of id rows ≡ None
 none_left id [] none = refl
 none_left id (first ∷ rows) none =
     let cases : (((first.id == id) ≡ false) × (up_to id rows ≡ 0)) ⊎ ((first.id == id) ≡ true) = grind (arith, nat_tests) in

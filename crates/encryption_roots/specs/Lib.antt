@@ -6,3 +6,5 @@ pub mod RecordSize
 pub mod ById
 pub mod Roots
 pub mod Owners
+pub mod Owned
+pub mod OwnedSample

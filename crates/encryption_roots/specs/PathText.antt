@@ -1,14 +1,14 @@
 -- The paths of key files.
-use Rattle.std.specs.Prelude.{ℕ, Bool, false, ◌&&◌, ◌==◌, nat_le, List, [], ◌∷◌, length, if◌then◌else◌}
+use Rattle.std.specs.Prelude.{ℕ, Bool, false, ◌&&◌, nat_le, List, [], ◌∷◌, length, if◌then◌else◌}
 use Rattle.std.specs.List.{list_all}
 use Rattle.std.specs.declared.option.Option.{Option}
 use Rattle.std.specs.declared.option.Option.TheVariants.{Some, None}
+use Rattle.dataset_tree.specs.SetName.{is_slash}
 use Rattle.encryption_roots.specs.Printable.{stands_in_word}
 
--- `/`
 abbrev pub begins_with_slash : List ℕ → Bool
 begins_with_slash [] = false
-begins_with_slash (b ∷ bs) = b == 0x2f
+begins_with_slash (b ∷ bs) = is_slash b
 
 -- 1 to 1024 bytes of a word, the first `/`
 abbrev pub is_path : List ℕ → Bool

@@ -8,6 +8,10 @@ pub mod Told
 pub mod Create
 pub mod Load
 pub mod Unload
+pub mod Rekey
+pub mod Change
+pub mod Inherit
+pub mod Rekeyed
 pub mod Get
 pub mod Step
 pub mod Busy

@@ -1,9 +1,10 @@
 -- A host for worked values: `tank` (1), a root, with `tank/a` (2) and `tank/b` (3), which inherit its key, `copy` (4), a clone of
 -- `tank/a`, and `lake` (5), which is plain. `tank/a` is mounted on slot 0, and `copy` is mapped on slot 1, where rider 7 holds it twice; slot 2 was used before.
-use Rattle.std.specs.Prelude.{ℕ, [], ◌∷◌, ◌++◌, replicate, codes}
+use Rattle.std.specs.Prelude.{ℕ, List, [], ◌∷◌, ◌++◌, replicate, codes}
 use Rattle.dataset_tree.specs.declared.kinds.Kind.TheVariants.{Plain as PlainKind, Crypt}
-use Rattle.dataset_tree.specs.declared.kinds.Format.TheVariants.{Raw}
+use Rattle.dataset_tree.specs.declared.kinds.Format.TheVariants.{Raw, Passphrase}
 use Rattle.encryption_roots.specs.declared.props.Location.TheVariants.{File}
+use Rattle.encryption_roots.specs.declared.props.Props.{Props}
 use Rattle.key_machine.specs.Plain.{Plain}
 
 abbrev pub sample : Plain
@@ -30,3 +31,14 @@ sample = record {
 -- the host whose rider 7 holds the mapping of `copy` so often
 abbrev pub held_by_one : ℕ → Plain
 held_by_one times = record sample { users = replicate times (record { rider = 7; slot = 1; generation = 1 }) }
+
+-- the host where `tank/b` is a root too, and only these keys are loaded
+abbrev pub with_child_root : List (ℕ × List ℕ) → Plain
+with_child_root loaded = record sample {
+  roots = (1, record { format = Raw; place = File (codes "/t"); iters = 0; salt = 0 }) ∷ (3, record { format = Raw; place = File (codes "/b"); iters = 0; salt = 0 }) ∷ [];
+  loaded = loaded;
+}
+
+-- a passphrase's properties
+abbrev pub passphrase_props : Props
+passphrase_props = record { format = Passphrase; place = File (codes "/p"); iters = 500000; salt = 9 }
