@@ -166,14 +166,23 @@ pub record HasWanted (needs : Needs) (kit : LineKit) : Type 0 where
 
 -- ---- a command
 
--- the record size of a create, where it has one, is in form
-abbrev pub HasSize : KeyCmd → Type 0
-HasSize (commands.Create name opts) = IfSome opts.block IsRecordSize
-HasSize command = Unit {0}
+-- A command that a line of the language may give: the record size of a create, where it has one, is in form, and no line changes a key yet.
+abbrev pub IsOfLine : KeyCmd → Type 0
+IsOfLine (commands.Create name opts) = IfSome opts.block IsRecordSize
+IsOfLine (commands.Load name check_only place) = Unit {0}
+IsOfLine (commands.Unload name) = Unit {0}
+IsOfLine (commands.Change name opts load_first) = ⊥
+IsOfLine (commands.Inherit name load_first) = ⊥
+IsOfLine (commands.Mount name) = ⊥
+IsOfLine (commands.Unmount name) = ⊥
+IsOfLine (commands.Get name prop) = Unit {0}
+IsOfLine (commands.Clone from name) = ⊥
+IsOfLine (commands.Receive name props wrapped block) = ⊥
+IsOfLine (commands.Destroy name snaps) = ⊥
 
-abbrev pub IsSized : Result KeyCmd Stop → Type 0
-IsSized (Ok command) = HasSize command
-IsSized (Err stop) = Unit {0}
+abbrev pub AreOfLine : Result KeyCmd Stop → Type 0
+AreOfLine (Ok command) = IsOfLine command
+AreOfLine (Err stop) = Unit {0}
 
 abbrev pub IsDone : Reply → Type 0
 IsDone Done = Unit {0}

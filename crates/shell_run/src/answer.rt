@@ -7,7 +7,7 @@ ghost use Rattle.dataset_tree.specs.SetName.{named};
 ghost use Rattle.encryption_roots.specs.declared.command.KeyCmd.TheVariants as commands;
 ghost use Rattle.shell_lines.specs.Grammar.{line_of};
 ghost use Rattle.shell_lines.specs.Sized.{HasRecordSize};
-ghost use Rattle.shell_run.specs.Answers.{Acts, Commands, HasAnswer, IsSized, Reads, ShowsStop, WhereTold, shown_output, unspelled};
+ghost use Rattle.shell_run.specs.Answers.{Acts, Commands, HasAnswer, AreOfLine, Reads, ShowsStop, WhereTold, shown_output, unspelled};
 ghost use Rattle.shell_run.specs.Texts.{ok_line, set_line};
 ghost use Rattle.shell_run.specs.Transcript.{answer_if, answer_of, told_world, command_named};
 
@@ -116,7 +116,7 @@ fn run_command<W: Outside>(
     command: Result<KeyCmd, Stop>,
     output: &mut Vec<u8>,
 ) -> Result<(), Halt>
-    requires { IsSized command }
+    requires { AreOfLine command }
     ensures told { Acts number (W.told outside.old) (W.told outside.new) (λ made.
         WhereTold (told_world keys.old (W.told outside.old) (W.script outside.old)) made (λ entries w.
         Commands result number command entries w (told_world keys.new (W.told outside.new) (W.script outside.new)) output.old.items output.new.items made)) }

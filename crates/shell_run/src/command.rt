@@ -5,7 +5,7 @@ ghost use Rattle.edge_io.specs.Faults.{Rose};
 ghost use Rattle.key_machine.specs.Fair.{WasAsked};
 ghost use Rattle.key_store.specs.Calls.{stepped, state_after};
 ghost use Rattle.shell_run.specs.declared.found.FoundEntry.{FoundEntry};
-ghost use Rattle.shell_run.specs.Answers.{Acts, Agrees, Executes, Fetches, HasSize, HasWanted, Reads, Replies, TakesKit, WhereTold, settled, spot_of, wants_of};
+ghost use Rattle.shell_run.specs.Answers.{Acts, Agrees, Executes, Fetches, IsOfLine, HasWanted, Reads, Replies, TakesKit, WhereTold, settled, spot_of, wants_of};
 ghost use Rattle.shell_run.specs.Takings.{is_fetch};
 ghost use Rattle.shell_run.specs.Transcript.{commanded, told_world};
 
@@ -33,7 +33,7 @@ pub(crate) fn execute<W: Outside>(
     number: u32,
     command: &KeyCmd,
 ) -> Result<Result<Shown, Refusal>, Halt>
-    requires { HasSize command.now }
+    requires { IsOfLine command.now }
     ensures told { Acts number (W.told outside.old) (W.told outside.new) (λ made.
         WhereTold (told_world keys.old (W.told outside.old) (W.script outside.old)) made (λ entries w.
         Executes result number (commanded (spot_of number entries) w command.now) (told_world keys.new (W.told outside.new) (W.script outside.new)) made)) }
@@ -67,9 +67,9 @@ fn settle(answer: Result<Shown, Stop>) -> Result<Result<Shown, Refusal>, Halt>
     }
 }
 
-/// Carries out a command with its kit.
+/// Carries out a command with its kit. No line gives any of the last ones yet.
 fn carry(keys: &mut KeyState, command: &KeyCmd, kit: &LineKit) -> Result<Shown, Stop>
-    requires { HasSize command.now }
+    requires { IsOfLine command.now }
     ensures reply { Replies result (stepped keys.old command.now kit.now).reply }
     ensures state { keys.new ≡ state_after result keys.old (stepped keys.old command.now kit.now).state }
 {
@@ -100,7 +100,7 @@ fn carry(keys: &mut KeyState, command: &KeyCmd, kit: &LineKit) -> Result<Shown, 
         | KeyCmd::Unmount { .. }
         | KeyCmd::Clone { .. }
         | KeyCmd::Receive { .. }
-        | KeyCmd::Destroy { .. } => Err(Stop::Refused(Refusal::BadOptions)),
+        | KeyCmd::Destroy { .. } => unreachable!(),
     }
 }
 

@@ -20,17 +20,17 @@ returns-clause-told g c =
     (g.W.Outside.script c.args.outside.now) (g.W.Outside.script c.take_kit.new.outside) c.carry.result c.in-Ok.ensures c.in-Ok-take_kit.ensures.takes c.carry.ensures.reply c.carry.ensures.state)
 
 pub returns-in-Err-clause-key_fault : goal.returns-in-Err-clause-key_fault
-returns-in-Err-clause-key_fault g c = λ same. absurd (needs_apart KeyFault key_taking c.args.keys.now c.args.command.now c.in-Err.stop c.in-Err.ensures (rw c.settle.ensures at same))
+returns-in-Err-clause-key_fault g c = λ same. absurd (needs_apart KeyFault key_taking c.args.keys.now c.args.command.now c.requires c.in-Err.stop c.in-Err.ensures (rw c.settle.ensures at same))
 
 pub returns-in-Err-clause-entropy_fault : goal.returns-in-Err-clause-entropy_fault
-returns-in-Err-clause-entropy_fault g c = λ same. absurd (needs_apart EntropyFault entropy_taking c.args.keys.now c.args.command.now c.in-Err.stop c.in-Err.ensures (rw c.settle.ensures at same))
+returns-in-Err-clause-entropy_fault g c = λ same. absurd (needs_apart EntropyFault entropy_taking c.args.keys.now c.args.command.now c.requires c.in-Err.stop c.in-Err.ensures (rw c.settle.ensures at same))
 
 pub returns-clause-key_fault : goal.returns-clause-key_fault
 returns-clause-key_fault g c = λ same.
-    c.in-Ok-take_kit.ensures.key_fault (by_fetch c.in-Ok-take_kit.kit (executed_fault KeyFault key_taking c.args.keys.now c.args.command.now c.in-Ok.needs c.in-Ok-take_kit.kit c.carry.result c.in-Ok.ensures c.in-Ok-take_kit.ensures.asked c.carry.ensures.reply
+    c.in-Ok-take_kit.ensures.key_fault (by_fetch c.in-Ok-take_kit.kit (executed_fault KeyFault key_taking c.args.keys.now c.args.command.now c.requires c.in-Ok.needs c.in-Ok-take_kit.kit c.carry.result c.in-Ok.ensures c.in-Ok-take_kit.ensures.asked c.carry.ensures.reply
     (rw c.settle-2.ensures at same)))
 
 pub returns-clause-entropy_fault : goal.returns-clause-entropy_fault
 returns-clause-entropy_fault g c = λ same.
-    c.in-Ok-take_kit.ensures.entropy_fault (by_fill c.in-Ok-take_kit.kit (executed_fault EntropyFault entropy_taking c.args.keys.now c.args.command.now c.in-Ok.needs c.in-Ok-take_kit.kit c.carry.result c.in-Ok.ensures c.in-Ok-take_kit.ensures.asked c.carry.ensures.reply
+    c.in-Ok-take_kit.ensures.entropy_fault (by_fill c.in-Ok-take_kit.kit (executed_fault EntropyFault entropy_taking c.args.keys.now c.args.command.now c.requires c.in-Ok.needs c.in-Ok-take_kit.kit c.carry.result c.in-Ok.ensures c.in-Ok-take_kit.ensures.asked c.carry.ensures.reply
     (rw c.settle-2.ensures at same)))
