@@ -342,3 +342,11 @@ completes (BadLine number at) closed s0 s1 o0 o1 o2 closes_as source sink later 
 completes ReadFault closed s0 s1 o0 o1 o2 closes_as source sink later read written = absurd (read source.1)
 completes WriteFault closed s0 s1 o0 o1 o2 closes_as source sink later read written = absurd (written (omega (arith, sink.1, later)))
 completes NoMemory closed s0 s1 o0 o1 o2 closes_as source sink later read written = inr (ap status_of closes_as)
+
+pub statuses : (e : Ending) → IsAnswered (status_of e) ⊎ (status_of e ≡ 4) ⊎ (status_of e ≡ 5) ⊎ (status_of e ≡ 12)
+statuses Done = inl (inl refl)
+statuses Usage = inl (inr (inl refl))
+statuses (BadLine number at) = inl (inr (inr refl))
+statuses ReadFault = inr (inl refl)
+statuses WriteFault = inr (inr (inl refl))
+statuses NoMemory = inr (inr (inr refl))

@@ -1,5 +1,5 @@
 use Rattle.std.proofs.Common.{◌≤◌, ◌∙◌, sym}
-use Rattle.shell_run.proofs.EndingLemmas.{completes, done_is, ran, none_listed, sink_untouched, source_unread}
+use Rattle.shell_run.proofs.EndingLemmas.{completes, done_is, ran, none_listed, sink_untouched, source_unread, statuses}
 use Rattle.shell_run.proofs.run.run_alone.Goals as goal
 
 pub returns-clause-ran : goal.returns-clause-ran
@@ -28,3 +28,6 @@ pub returns-clause-complete : goal.returns-clause-complete
 returns-clause-complete g c = λ read written.
     rw c.status.ensures
     (completes c.run_words-ending.result c.close.result _ _ _ (g.O.Sink.faults c.run_words-ending.new.out) _ c.close.ensures.ending c.run_words-ending.ensures.source c.run_words-ending.ensures.sink c.close.ensures.later read written)
+
+pub returns-clause-statuses : goal.returns-clause-statuses
+returns-clause-statuses g c = rw c.status.ensures (statuses c.close.result)
