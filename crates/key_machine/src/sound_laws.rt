@@ -18,8 +18,10 @@ pub fn mounts_and_holds_are_bounded()
     ensures holds { (c : Ciphers) (p : Plain) (rider : ℕ) → Sound c p → count_by (λ hold. hold.rider == rider) p.users ≤ 65535 }
 {}
 
-/// In a sound state the records that a root owns are those of its families, as the datasets tell them: also with other roots than the state's own, as
-/// where a dataset is to become one.
+/// In a sound state the records that a root owns are those of its families, as the datasets tell
+/// them: also with other roots than the state's own, as where a dataset is to become one.
 pub fn records_are_of_the_owned_families()
-    ensures { (p : Plain) (roots : List (ℕ × Props)) (root : ℕ) → SoundTree p → map (λ entry. entry.0) (owned (record p { roots = roots }) root) ≡ owned_families p.tree.rows roots root }
+    ensures { (p : Plain) (roots : List (ℕ × Props)) (root : ℕ) → SoundTree p
+        → map (λ entry. entry.0) (owned (record p { roots = roots }) root)
+        ≡ owned_families p.tree.rows roots root }
 {}
