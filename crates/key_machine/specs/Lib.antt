@@ -14,7 +14,7 @@ pub mod Inherit
 pub mod Rekeyed
 pub mod Get
 pub mod Step
-pub mod Plan
 pub mod Busy
 pub mod Fair
 pub mod Sample
+pub mod Plan
