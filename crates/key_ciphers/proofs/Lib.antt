@@ -1,1 +1,2 @@
+pub mod OpenedMasters
 pub mod CipherLaws

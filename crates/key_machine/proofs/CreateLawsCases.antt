@@ -63,7 +63,7 @@ parent_there : (found : Option ℕ) → is_none found ≡ false → found ≡ So
 parent_there None known = absurd (cc)
 parent_there (Some parent) known = refl
 
-found_has : {X : Type 0} (P : X → Type 0) (test : X → Bool) (xs : List X) (x : X) → AllByRecursion P xs → find test xs ≡ Some x → P x
+pub found_has : {X : Type 0} (P : X → Type 0) (test : X → Bool) (xs : List X) (x : X) → AllByRecursion P xs → find test xs ≡ Some x → P x
 found_has P test [] x all found = cc
 found_has P test (first ∷ xs) x all found =
     (elim (test first) as (λ b. cond b (Some first) (find test xs) ≡ Some x → P x) [
@@ -88,15 +88,15 @@ found_by_id test (first ∷ rows) row rising found =
           rw unlike (rest behind))
     ]) found
 
-encrypted_kind : (kind : Kind) → is_encrypted_kind kind ≡ true → kind ≡ Crypt
+pub encrypted_kind : (kind : Kind) → is_encrypted_kind kind ≡ true → kind ≡ Crypt
 encrypted_kind PlainKind h = cc
 encrypted_kind Crypt h = refl
 
-encrypted_row : (found : Option Row) → is_encrypted_row found ≡ true → (parent : Row) × (found ≡ Some parent) × (parent.kind ≡ Crypt)
+pub encrypted_row : (found : Option Row) → is_encrypted_row found ≡ true → (parent : Row) × (found ≡ Some parent) × (parent.kind ≡ Crypt)
 encrypted_row None h = absurd (cc)
 encrypted_row (Some parent) h = (parent, refl, encrypted_kind parent.kind h)
 
-parent_found : (rows : List Row) (name : Option (List ℕ)) (parent : Row) → AllPairs (λ (a : Row) (b : Row). a.id < b.id) rows → option_and_then (λ n. row_named n rows) name ≡ Some parent
+pub parent_found : (rows : List Row) (name : Option (List ℕ)) (parent : Row) → AllPairs (λ (a : Row) (b : Row). a.id < b.id) rows → option_and_then (λ n. row_named n rows) name ≡ Some parent
     → (unwrap_or (parent_in rows name) 0 ≡ parent.id) × (row_of parent.id rows ≡ Some parent)
 parent_found rows None parent rising found = absurd (cc)
 parent_found rows (Some name) parent rising found = (rw found refl, found_by_id _ rows parent rising found)
@@ -204,7 +204,7 @@ module _ (c : Ciphers) (p : Plain) (name : List ℕ) (opts : Options) (told : To
       (subst (λ (k : List ℕ). is_some (c.opens (unwrap_or (at_id (p.tree.last + 1) told.wrapped) []) k) ≡ true) known opened)))
 
   -- an heir's owner is that of its parent
-  heir_owner : (parent : Row) → parent_row p name ≡ Some parent → owner_of (created_with p name opts told false true) (p.tree.last + 1) ≡ owner_of p parent.id
+  pub heir_owner : (parent : Row) → parent_row p name ≡ Some parent → owner_of (created_with p name opts told false true) (p.tree.last + 1) ≡ owner_of p parent.id
   heir_owner parent there =
       let found = parent_found p.tree.rows (parent_name name) parent sound.tree.tree.rising there in
       owner_of_other (created_with p name opts told false true).tree p.roots (p.tree.last + 1) (new_row p name true)

@@ -10,7 +10,7 @@ use Rattle.encryption_roots.specs.declared.props.Options.{Options}
 use Rattle.encryption_roots.specs.declared.command.KeyCmd.TheVariants as commands
 use Rattle.encryption_roots.specs.ById.{at_id}
 use Rattle.key_machine.specs.Plain.{Plain, Ciphers, is_encrypted_row}
-use Rattle.key_machine.specs.Create.{is_below_encrypted, parent_row, parent_key, makes_root, makes_encrypted, are_bad_options, are_bad_iterations, create_cases, created}
+use Rattle.key_machine.specs.Create.{is_below_encrypted, parent_row, parent_key, has_parent_key, makes_root, makes_heir, makes_encrypted, are_bad_options, are_bad_iterations, create_cases, created}
 use Rattle.key_machine.specs.Refusals.{first_of}
 use Rattle.key_machine.specs.Step.{refusal_of}
 use Rattle.key_machine.specs.Sound.{Sound}
@@ -20,11 +20,11 @@ use Rattle.key_machine.proofs.CreateLawsCases.{created_with, record_opens, plain
 
 -- ---- what the state doesn't refuse
 
-abbrev NoneHolds : List (Bool × Refusal) → Type 0
+abbrev pub NoneHolds : List (Bool × Refusal) → Type 0
 NoneHolds [] = Unit {0}
 NoneHolds (case ∷ cases) = (case.0 ≡ false) × NoneHolds cases
 
-none_holds : (cases : List (Bool × Refusal)) → first_of cases ≡ None → NoneHolds cases
+pub none_holds : (cases : List (Bool × Refusal)) → first_of cases ≡ None → NoneHolds cases
 none_holds [] none = tt
 none_holds (case ∷ cases) none =
     ⊎_elim (λ (holds : case.0 ≡ true). absurd (let some : Some case.1 ≡ None = rw holds at none in cc)) (λ (fails : case.0 ≡ false). (fails, none_holds cases (rw fails at none))) (cases_Bool case.0)
@@ -34,6 +34,7 @@ pub record IsFree (p : Plain) (name : List ℕ) (opts : Options) : Type 0 where
   pub parent : is_none (parent_in p.tree.rows (parent_name name)) ≡ false
   pub options : are_bad_options p name opts ≡ false
   pub iterations : are_bad_iterations opts.iters ≡ false
+  pub key : (makes_heir p name opts && not (has_parent_key p (parent_row p name))) ≡ false
   pub rows : length p.tree.rows < 256
   pub ids : p.tree.last < 4294967295
   pub families : (makes_encrypted p name opts && nat_le 32 (length p.wrapped)) ≡ false
@@ -46,6 +47,7 @@ free p name opts accepted =
       parent = none.1.0;
       options = none.1.1.0;
       iterations = none.1.1.1.0;
+      key = none.1.1.1.1.0;
       rows = below (length p.tree.rows) 256 none.1.1.1.1.1.0;
       ids = below p.tree.last 4294967295 none.1.1.1.1.1.1.0;
       families = none.1.1.1.1.1.1.1.0;

@@ -19,7 +19,9 @@ use Rattle.encryption_roots.specs.ById.{at_id}
 use Rattle.salt_rotation.specs.Places.{master_place, hmac_place, guid_place, vector_place}
 use Rattle.key_machine.specs.Plain.{Plain, Ciphers}
 use Rattle.key_machine.specs.Create.{makes_root, makes_encrypted, parent_row, parent_key, create_key, told_encrypted, new_format, new_iters, new_salt, new_suite, seeded_master, seeded_record}
+use Rattle.key_machine.specs.Change.{change_families, change_done}
 use Rattle.key_machine.specs.Get.{get_done}
+use Rattle.key_machine.specs.Inherit.{inherit_families, inherit_key, inherit_done}
 use Rattle.key_machine.specs.Load.{load_done, load_material, told_load, told_load_of, told_load_with, loaded_key}
 use Rattle.key_machine.specs.Refusals.{first_refusal, not_built}
 use Rattle.key_machine.specs.Reply.{Stepped, Done, Refused}
@@ -27,10 +29,13 @@ use Rattle.key_machine.specs.Sound.{Sound}
 use Rattle.key_machine.specs.Step.{key_step, target, told, refusal_of, in_use, IsAccepted}
 use Rattle.key_machine.specs.Told.{Told, no_key, nothing_told, key_of, seed_of}
 use Rattle.key_machine.specs.Unload.{InUse, unload_done, unloaded}
-use Rattle.key_machine.specs.Fair.{IsMaster, AreSound, IsFair, IsGenuine, AllOpen, OpensAll}
+use Rattle.key_machine.specs.Fair.{IsMaster, AreSound, IsFair, IsGenuine, AllOpen, AllKept, OpensAll}
 use Rattle.key_machine.proofs.SoundLemmas.{done, by_step, accepted_step, refused_step, refused_by_material, step_sound}
 use Rattle.key_machine.proofs.CreateLawsStep.{IsFree, free, created_sound}
 use Rattle.key_machine.proofs.LoadLaws.{load_accepted, load_sound}
+use Rattle.key_machine.proofs.ChangeLaws.{IsChangeable, changeable, change_sound}
+use Rattle.key_machine.proofs.InheritLaws.{IsInheritable, inheritable, IsAbove, owner_above, has_above, key_above_is, inherit_sound}
+use Rattle.key_machine.proofs.RekeyFair.{created_kept, change_fair, inherit_fair}
 use Rattle.key_machine.proofs.UnloadLaws.{unload_sound}
 
 -- ---- a seeded record opens
@@ -49,7 +54,7 @@ module _ (c : Ciphers) (are : AreSound c) where
 
   -- ---- a create
 
-  module _ (p : Plain) (name : List ℕ) (opts : Options) (kit : LineKit) where
+  module _ (p : Plain) (tree : IsTree p.tree) (name : List ℕ) (opts : Options) (kit : LineKit) where
     abbrev own : List ℕ
     own = parent_key p (parent_row p name)
 
@@ -64,6 +69,7 @@ module _ (c : Ciphers) (are : AreSound c) where
         record {
           owned = tt;
           families = sym (ap (λ b. if b then (p.tree.last + 1) ∷ [] else []) (is_encrypted ∙ made));
+          kept = created_kept c p (if makes_root opts then (if makes_root opts then key else no_key) else own) ((p.tree.last + 1, sealed) ∷ []) tree refl;
           opened = subst (λ (k : List ℕ). AllOpen c k ((p.tree.last + 1, sealed) ∷ [])) (sym stands) one;
         } where
           stands_under : (root : Bool) → (if root then fetched else Ok own) ≡ Ok key → (if root then (if root then key else no_key) else own) ≡ key
@@ -84,7 +90,7 @@ module _ (c : Ciphers) (are : AreSound c) where
     by_encrypted : (encrypted : Bool) → makes_encrypted p name opts ≡ encrypted → refusal_of p (commands.Create name opts) ≡ None
         → IsFair c p (commands.Create name opts) (if encrypted then told_encrypted c p name opts (create_key c p name opts kit) (seed_of kit.seed) else nothing_told)
     by_encrypted true is accepted = encrypted_fair (create_key c p name opts kit) (seed_of kit.seed) refl is accepted
-    by_encrypted false is accepted = inr (record { owned = tt; families = sym (ap (λ b. if b then (p.tree.last + 1) ∷ [] else []) is); opened = All-nil _ })
+    by_encrypted false is accepted = inr (record { owned = tt; families = sym (ap (λ b. if b then (p.tree.last + 1) ∷ [] else []) is); opened = All-nil _; kept = All-nil _ })
 
     create_fair : (refusal : Option Refusal) → refusal_of p (commands.Create name opts) ≡ refusal → IsFair c p (commands.Create name opts) (told c p (commands.Create name opts) kit)
     create_fair (Some why) state = inl (why, ap (λ stepped. stepped.reply) (refused_step p (commands.Create name opts) (told c p (commands.Create name opts) kit) why state))
@@ -130,6 +136,7 @@ module _ (c : Ciphers) (p : Plain) (name : List ℕ) (check_only : Bool) (place 
         owned = load_opens accepted (target p load) refl;
         families = ap (λ wrapped. map (λ entry. entry.0) wrapped) writes;
         opened = subst (λ (w : List (ℕ × List ℕ)). AllOpen c no_key w) (sym writes) (All-nil _);
+        kept = subst (λ (w : List (ℕ × List ℕ)). AllKept c p no_key w) (sym writes) (All-nil _);
       }
 
   load_fair : IsFair c p load facts
@@ -141,18 +148,18 @@ module _ (c : Ciphers) (p : Plain) (name : List ℕ) (check_only : Bool) (place 
 nothing_fair : (c : Ciphers) (p : Plain) (command : KeyCmd) → refusal_of p command ≡ Some not_built → IsFair c p command nothing_told
 nothing_fair c p command state = inl (not_built, ap (λ stepped. stepped.reply) (refused_step p command nothing_told not_built state))
 
-pub told_fair : (c : Ciphers) (p : Plain) (command : KeyCmd) (kit : LineKit) → AreSound c → IsFair c p command (told c p command kit)
-told_fair c p (commands.Create name opts) kit are = create_fair c are p name opts kit (refusal_of p (commands.Create name opts)) refl
-told_fair c p (commands.Load name check_only place) kit are = load_fair c p name check_only place kit
-told_fair c p (commands.Unload name) kit are = inr (record { owned = tt; families = refl; opened = All-nil _ })
-told_fair c p (commands.Change name opts load_first) kit are = nothing_fair c p (commands.Change name opts load_first) refl
-told_fair c p (commands.Inherit name load_first) kit are = nothing_fair c p (commands.Inherit name load_first) refl
-told_fair c p (commands.Mount name) kit are = nothing_fair c p (commands.Mount name) refl
-told_fair c p (commands.Unmount name) kit are = nothing_fair c p (commands.Unmount name) refl
-told_fair c p (commands.Get name prop) kit are = inr (record { owned = tt; families = refl; opened = All-nil _ })
-told_fair c p (commands.Clone from name) kit are = nothing_fair c p (commands.Clone from name) refl
-told_fair c p (commands.Receive name props wrapped block) kit are = nothing_fair c p (commands.Receive name props wrapped block) refl
-told_fair c p (commands.Destroy name snaps) kit are = nothing_fair c p (commands.Destroy name snaps) refl
+pub told_fair : (c : Ciphers) (p : Plain) (command : KeyCmd) (kit : LineKit) → AreSound c → Sound c p → IsFair c p command (told c p command kit)
+told_fair c p (commands.Create name opts) kit are s = create_fair c are p s.tree.tree name opts kit (refusal_of p (commands.Create name opts)) refl
+told_fair c p (commands.Load name check_only place) kit are s = load_fair c p name check_only place kit
+told_fair c p (commands.Unload name) kit are s = inr (record { owned = tt; families = refl; opened = All-nil _; kept = All-nil _ })
+told_fair c p (commands.Change name opts load_first) kit are s = change_fair c are p s name opts load_first kit
+told_fair c p (commands.Inherit name load_first) kit are s = inherit_fair c are p s name load_first kit
+told_fair c p (commands.Mount name) kit are s = nothing_fair c p (commands.Mount name) refl
+told_fair c p (commands.Unmount name) kit are s = nothing_fair c p (commands.Unmount name) refl
+told_fair c p (commands.Get name prop) kit are s = inr (record { owned = tt; families = refl; opened = All-nil _; kept = All-nil _ })
+told_fair c p (commands.Clone from name) kit are s = nothing_fair c p (commands.Clone from name) refl
+told_fair c p (commands.Receive name props wrapped block) kit are s = nothing_fair c p (commands.Receive name props wrapped block) refl
+told_fair c p (commands.Destroy name snaps) kit are s = nothing_fair c p (commands.Destroy name snaps) refl
 
 -- ---- fair steps keep soundness
 
@@ -171,6 +178,46 @@ load_reply : (c : Ciphers) (p : Plain) (name : List ℕ) (check_only : Bool) (te
 load_reply c p name check_only tells None = inl refl
 load_reply c p name check_only tells (Some root) = inr (λ why reply. cc)
 
+-- so is what is told of an accepted change or inherit of a dataset that is there
+pub change_genuine : (c : Ciphers) (p : Plain) (name : List ℕ) (opts : Options) (load_first : Bool) (tells : Told) (id : ℕ) → IsAccepted p (commands.Change name opts load_first) tells
+    → target p (commands.Change name opts load_first) ≡ Some id → IsFair c p (commands.Change name opts load_first) tells → IsGenuine c p (commands.Change name opts load_first) tells
+change_genuine c p name opts load_first tells id accepted at fair =
+    let done_is : (done p (commands.Change name opts load_first) tells).reply ≡ Done = ap (λ (found : Option ℕ). (change_done p opts tells found).reply) at in
+    genuine_of c p (commands.Change name opts load_first) tells accepted (λ why refused. (let both : Done ≡ Refused why = sym done_is ∙ refused in cc)) fair
+
+pub inherit_genuine : (c : Ciphers) (p : Plain) (name : List ℕ) (load_first : Bool) (tells : Told) (id : ℕ) → IsAccepted p (commands.Inherit name load_first) tells
+    → target p (commands.Inherit name load_first) ≡ Some id → IsFair c p (commands.Inherit name load_first) tells → IsGenuine c p (commands.Inherit name load_first) tells
+inherit_genuine c p name load_first tells id accepted at fair =
+    let done_is : (done p (commands.Inherit name load_first) tells).reply ≡ Done = ap (λ (found : Option ℕ). (inherit_done p tells found).reply) at in
+    genuine_of c p (commands.Inherit name load_first) tells accepted (λ why refused. (let both : Done ≡ Refused why = sym done_is ∙ refused in cc)) fair
+
+change_kept : (c : Ciphers) (p : Plain) (name : List ℕ) (opts : Options) (load_first : Bool) (tells : Told) → Sound c p → IsAccepted p (commands.Change name opts load_first) tells
+    → IsFair c p (commands.Change name opts load_first) tells → (found : Option ℕ) → target p (commands.Change name opts load_first) ≡ found → Sound c (change_done p opts tells found).state
+change_kept c p name opts load_first tells s accepted fair None at = s
+change_kept c p name opts load_first tells s accepted fair (Some id) at =
+    let is : IsChangeable p id load_first = changeable p name opts load_first id s.tree.tree accepted.state at in
+    let genuine = change_genuine c p name opts load_first tells id accepted at fair in
+    change_sound c p id opts tells s is.first (genuine.families ∙ ap (change_families p opts) at) genuine.opened
+
+-- the parent's owner, under whose key an accepted inherit writes
+pub above_of : (c : Ciphers) (p : Plain) (name : List ℕ) (load_first : Bool) (tells : Told) (id : ℕ) → Sound c p → IsAccepted p (commands.Inherit name load_first) tells
+    → (at : target p (commands.Inherit name load_first) ≡ Some id) → (is : IsInheritable p id load_first) → IsAbove p is.parent
+above_of c p name load_first tells id s accepted at is = owner_above p is.parent (has_above p name load_first tells id is s.tree.tree accepted.state at accepted.material)
+
+pub inherit_key_is : (p : Plain) (name : List ℕ) (load_first : Bool) (id : ℕ) (is : IsInheritable p id load_first) (owner : IsAbove p is.parent) → target p (commands.Inherit name load_first) ≡ Some id
+    → inherit_key p (target p (commands.Inherit name load_first)) ≡ owner.key
+inherit_key_is p name load_first id is owner at = ap (inherit_key p) at ∙ key_above_is p id is.first is.parent is.above owner
+
+inherit_kept : (c : Ciphers) (p : Plain) (name : List ℕ) (load_first : Bool) (tells : Told) → Sound c p → IsAccepted p (commands.Inherit name load_first) tells
+    → IsFair c p (commands.Inherit name load_first) tells → (found : Option ℕ) → target p (commands.Inherit name load_first) ≡ found → Sound c (inherit_done p tells found).state
+inherit_kept c p name load_first tells s accepted fair None at = s
+inherit_kept c p name load_first tells s accepted fair (Some id) at =
+    let is : IsInheritable p id load_first = inheritable p name load_first id s.tree.tree accepted.state at in
+    let owner : IsAbove p is.parent = above_of c p name load_first tells id s accepted at is in
+    let genuine = inherit_genuine c p name load_first tells id accepted at fair in
+    inherit_sound c p id tells s is.first is.root is.parent is.above owner (genuine.families ∙ ap (inherit_families p) at)
+    (subst (λ (key : List ℕ). AllOpen c key tells.wrapped) (inherit_key_is p name load_first id is owner at) genuine.opened)
+
 pub keeps : (c : Ciphers) (p : Plain) (command : KeyCmd) (tells : Told) → Sound c p → IsFair c p command tells → Sound c (key_step p command tells).state
 keeps c p (commands.Create name opts) tells sound fair =
     step_sound c p (commands.Create name opts) tells sound
@@ -182,8 +229,12 @@ keeps c p (commands.Load name check_only place) tells sound fair =
     (λ never. load_sound c p tells name check_only place sound accepted.state (genuine_of c p command tells accepted never fair).owned)
     (load_reply c p name check_only tells (target p command)))
 keeps c p (commands.Unload name) tells sound fair = step_sound c p (commands.Unload name) tells sound (λ accepted. unload_sound c p (target p (commands.Unload name)) sound)
-keeps c p (commands.Change name opts load_first) tells sound fair = sound
-keeps c p (commands.Inherit name load_first) tells sound fair = sound
+keeps c p (commands.Change name opts load_first) tells sound fair =
+    let command : KeyCmd = commands.Change name opts load_first in
+    step_sound c p command tells sound (λ accepted. change_kept c p name opts load_first tells sound accepted fair (target p command) refl)
+keeps c p (commands.Inherit name load_first) tells sound fair =
+    let command : KeyCmd = commands.Inherit name load_first in
+    step_sound c p command tells sound (λ accepted. inherit_kept c p name load_first tells sound accepted fair (target p command) refl)
 keeps c p (commands.Mount name) tells sound fair = sound
 keeps c p (commands.Unmount name) tells sound fair = sound
 keeps c p (commands.Get name prop) tells sound fair = step_sound c p (commands.Get name prop) tells sound (λ accepted. get_kept c p prop (target p (commands.Get name prop)) sound)
@@ -209,6 +260,14 @@ load_tree : (p : Plain) (check_only : Bool) (tells : Told) (at : Option ℕ) →
 load_tree p check_only tells None = refl
 load_tree p check_only tells (Some root) = loaded_tree p root check_only tells
 
+change_tree : (p : Plain) (opts : Options) (tells : Told) (at : Option ℕ) → (change_done p opts tells at).state.tree ≡ p.tree
+change_tree p opts tells None = refl
+change_tree p opts tells (Some id) = refl
+
+inherit_tree : (p : Plain) (tells : Told) (at : Option ℕ) → (inherit_done p tells at).state.tree ≡ p.tree
+inherit_tree p tells None = refl
+inherit_tree p tells (Some id) = refl
+
 get_tree : (p : Plain) (prop : Prop) (at : Option ℕ) → (get_done p prop at).state.tree ≡ p.tree
 get_tree p prop None = refl
 get_tree p prop (Some id) = refl
@@ -219,8 +278,8 @@ carried_tree p (commands.Create name opts) tells tree accepted =
     IsTree-with_row p.tree name _ 0 tree is.absent is.parent (inl refl)
 carried_tree p (commands.Load name check_only place) tells tree accepted = subst IsTree (sym (load_tree p check_only tells (target p (commands.Load name check_only place)))) tree
 carried_tree p (commands.Unload name) tells tree accepted = subst IsTree (sym (unload_tree p (in_use p (commands.Unload name)) (target p (commands.Unload name)))) tree
-carried_tree p (commands.Change name opts load_first) tells tree accepted = tree
-carried_tree p (commands.Inherit name load_first) tells tree accepted = tree
+carried_tree p (commands.Change name opts load_first) tells tree accepted = subst IsTree (sym (change_tree p opts tells (target p (commands.Change name opts load_first)))) tree
+carried_tree p (commands.Inherit name load_first) tells tree accepted = subst IsTree (sym (inherit_tree p tells (target p (commands.Inherit name load_first)))) tree
 carried_tree p (commands.Mount name) tells tree accepted = tree
 carried_tree p (commands.Unmount name) tells tree accepted = tree
 carried_tree p (commands.Get name prop) tells tree accepted = subst IsTree (sym (get_tree p prop (target p (commands.Get name prop)))) tree

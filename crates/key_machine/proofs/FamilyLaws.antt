@@ -15,7 +15,7 @@ no_props None never = refl
 no_props (Some x) never = absurd (never refl)
 
 module _ (c : Ciphers) (p : Plain) (s : Sound c p) where
-  heirs : HasHeirsAsClones p.tree p.roots
+  pub heirs : HasHeirsAsClones p.tree p.roots
   heirs = (
     s.tree.tree,
     λ k d within clone.

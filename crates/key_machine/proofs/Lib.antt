@@ -13,3 +13,11 @@ pub mod FairLaws
 pub mod HoldLaws
 pub mod RefusalLaws
 pub mod FamilyLaws
+pub mod RekeyOwners
+pub mod RekeyRecords
+pub mod ChangeLaws
+pub mod InheritLaws
+pub mod RekeyFair
+pub mod ToldLaws
+pub mod RekeyLaws
+pub mod FamilyNames

@@ -29,7 +29,7 @@ use Rattle.key_machine.proofs.KeyLists.{All-with_id}
 -- ---- load
 
 -- what a key opens among the records that a root owns, it opens by family
-opens_at : (c : Ciphers) (p : Plain) (root id : ℕ) (key : List ℕ) (entries : List (ℕ × Stored)) → owner_of p id ≡ Some root
+pub opens_at : (c : Ciphers) (p : Plain) (root id : ℕ) (key : List ℕ) (entries : List (ℕ × Stored)) → owner_of p id ≡ Some root
     → All (λ entry. is_some (c.opens entry.1.wrapped key) ≡ true) (filter (λ entry. is_same root (owner_of p entry.0)) entries) → IfSome (at_id id entries) (λ stored. is_some (c.opens stored.wrapped key) ≡ true)
 opens_at c p root id key [] owner opened = tt
 opens_at c p root id key (entry ∷ entries) owner opened =
@@ -47,7 +47,7 @@ opens_at c p root id key (entry ∷ entries) owner opened =
     rw (ne_eqb entry.0 id apart) rest) (cases_Bool (own entry))
 
 -- a key that is loaded stays so
-key_kept : (p : Plain) (root : ℕ) (key : List ℕ) (found : Option ℕ) → has_key_of p found ≡ true → has_key_of (record p { loaded = with_id root key p.loaded }) found ≡ true
+pub key_kept : (p : Plain) (root : ℕ) (key : List ℕ) (found : Option ℕ) → has_key_of p found ≡ true → has_key_of (record p { loaded = with_id root key p.loaded }) found ≡ true
 key_kept p root key None known = known
 key_kept p root key (Some owner) known =
     ⊎_elim (λ (same : owner ≡ root). rw (same, at_id-with_id root key p.loaded) refl) (λ (apart : owner ≢ root). rw (at_id-with_id_other root owner key p.loaded apart) known) (cases_eq owner root)

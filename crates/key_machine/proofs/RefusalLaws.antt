@@ -3,13 +3,16 @@ use Rattle.std.proofs.Common.{◌≡◌, ◌⊎◌, inl, inr, ℕ, Bool, Option,
 use Rattle.std.specs.Option.{option_and_then}
 use Rattle.dataset_tree.specs.declared.refusal.Refusal.{Refusal}
 use Rattle.dataset_tree.specs.declared.refusal.Refusal.TheVariants.{Busy}
+use Rattle.encryption_roots.specs.declared.props.Options.{Options}
 use Rattle.encryption_roots.specs.declared.props.Prop.{Prop}
 use Rattle.encryption_roots.specs.declared.command.KeyCmd.{KeyCmd}
 use Rattle.encryption_roots.specs.declared.command.KeyCmd.TheVariants as commands
 use Rattle.encryption_roots.specs.ById.{IsRisingById}
 use Rattle.key_machine.specs.Plain.{Plain}
 use Rattle.key_machine.specs.Busy.{IsFirstInUse}
+use Rattle.key_machine.specs.Change.{change_done}
 use Rattle.key_machine.specs.Get.{get_done}
+use Rattle.key_machine.specs.Inherit.{inherit_done}
 use Rattle.key_machine.specs.Load.{load_done}
 use Rattle.key_machine.specs.Reply.{Stepped, Refused}
 use Rattle.key_machine.specs.Step.{key_step, target}
@@ -39,6 +42,14 @@ load_unchanged : (p : Plain) (check_only : Bool) (told : Told) (why : Refusal) (
 load_unchanged p check_only told why None reply = refl
 load_unchanged p check_only told why (Some root) reply = absurd (cc)
 
+change_unchanged : (p : Plain) (opts : Options) (told : Told) (why : Refusal) (at : Option ℕ) → (change_done p opts told at).reply ≡ Refused why → (change_done p opts told at).state ≡ p
+change_unchanged p opts told why None reply = refl
+change_unchanged p opts told why (Some id) reply = absurd (cc)
+
+inherit_unchanged : (p : Plain) (told : Told) (why : Refusal) (at : Option ℕ) → (inherit_done p told at).reply ≡ Refused why → (inherit_done p told at).state ≡ p
+inherit_unchanged p told why None reply = refl
+inherit_unchanged p told why (Some id) reply = absurd (cc)
+
 get_unchanged : (p : Plain) (prop : Prop) (at : Option ℕ) → (get_done p prop at).state ≡ p
 get_unchanged p prop None = refl
 get_unchanged p prop (Some id) = refl
@@ -47,8 +58,8 @@ carried_unchanged : (p : Plain) (command : KeyCmd) (told : Told) (why : Refusal)
 carried_unchanged p (commands.Create name opts) told why rising reply = absurd (cc)
 carried_unchanged p (commands.Load name check_only place) told why rising reply = inl (load_unchanged p check_only told why (target p (commands.Load name check_only place)) reply)
 carried_unchanged p (commands.Unload name) told why rising reply = unload_unchanged p why (target p (commands.Unload name)) rising reply
-carried_unchanged p (commands.Change name opts load_first) told why rising reply = inl refl
-carried_unchanged p (commands.Inherit name load_first) told why rising reply = inl refl
+carried_unchanged p (commands.Change name opts load_first) told why rising reply = inl (change_unchanged p opts told why (target p (commands.Change name opts load_first)) reply)
+carried_unchanged p (commands.Inherit name load_first) told why rising reply = inl (inherit_unchanged p told why (target p (commands.Inherit name load_first)) reply)
 carried_unchanged p (commands.Mount name) told why rising reply = inl refl
 carried_unchanged p (commands.Unmount name) told why rising reply = inl refl
 carried_unchanged p (commands.Get name prop) told why rising reply = inl (get_unchanged p prop (target p (commands.Get name prop)))

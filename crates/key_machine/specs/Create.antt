@@ -53,12 +53,11 @@ is_passphrase (Some Raw) = false
 is_passphrase (Some Hex) = false
 is_passphrase (Some Passphrase) = true
 
--- Without a key format: a key location, iterations, or a suite where nothing is inherited. With one: iterations where it is no
--- passphrase. Until inheritance is built, also a dataset that would inherit its key.
+-- Without a key format: a key location, iterations, or a suite where nothing is inherited. With one: iterations where it is no passphrase.
 abbrev pub are_bad_options : Plain → List ℕ → Options → Bool
 are_bad_options p name opts =
     if makes_root opts then is_some opts.iters && not (is_passphrase opts.format)
-    else is_some opts.place || is_some opts.iters || is_some opts.suite && not (is_below_encrypted p name) || is_below_encrypted p name
+    else is_some opts.place || is_some opts.iters || is_some opts.suite && not (is_below_encrypted p name)
 
 abbrev pub are_bad_iterations : Option ℕ → Bool
 are_bad_iterations None = false

@@ -8,8 +8,13 @@ pub mod Told
 pub mod Create
 pub mod Load
 pub mod Unload
+pub mod Rekey
+pub mod Change
+pub mod Inherit
+pub mod Rekeyed
 pub mod Get
 pub mod Step
 pub mod Busy
 pub mod Fair
 pub mod Sample
+pub mod Plan

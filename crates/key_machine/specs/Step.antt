@@ -9,8 +9,10 @@ use Rattle.dataset_tree.specs.Tree.{id_named}
 use Rattle.encryption_roots.specs.declared.command.KeyCmd.{KeyCmd}
 use Rattle.encryption_roots.specs.declared.command.KeyCmd.TheVariants as commands
 use Rattle.encryption_roots.specs.declared.kit.LineKit.{LineKit}
+use Rattle.key_machine.specs.Change.{change_cases, change_material, change_wanted, told_change, change_done}
 use Rattle.key_machine.specs.Create.{create_cases, create_material, create_wanted, told_create, create_done}
 use Rattle.key_machine.specs.Get.{get_cases, get_done}
+use Rattle.key_machine.specs.Inherit.{inherit_cases, inherit_material, inherit_wanted, told_inherit, inherit_done}
 use Rattle.key_machine.specs.Load.{load_cases, load_material, load_wanted, told_load, load_done}
 use Rattle.key_machine.specs.Plain.{Plain, Ciphers}
 use Rattle.key_machine.specs.Refusals.{first_of, first_refusal, not_built}
@@ -23,8 +25,8 @@ abbrev pub refusal_of : Plain → KeyCmd → Option Refusal
 refusal_of p (commands.Create name opts) = first_of (create_cases p name opts)
 refusal_of p (commands.Load name check_only place) = first_of (load_cases p name check_only)
 refusal_of p (commands.Unload name) = first_of (unload_cases p name)
-refusal_of p (commands.Change name opts load_first) = Some not_built
-refusal_of p (commands.Inherit name load_first) = Some not_built
+refusal_of p (commands.Change name opts load_first) = first_of (change_cases p name opts load_first)
+refusal_of p (commands.Inherit name load_first) = first_of (inherit_cases p name load_first)
 refusal_of p (commands.Mount name) = Some not_built
 refusal_of p (commands.Unmount name) = Some not_built
 refusal_of p (commands.Get name prop) = first_of (get_cases p name)
@@ -37,8 +39,8 @@ abbrev pub wanted : Plain → KeyCmd → Wanted
 wanted p (commands.Create name opts) = create_wanted p name opts
 wanted p (commands.Load name check_only place) = load_wanted p name place
 wanted p (commands.Unload name) = nothing_wanted
-wanted p (commands.Change name opts load_first) = nothing_wanted
-wanted p (commands.Inherit name load_first) = nothing_wanted
+wanted p (commands.Change name opts load_first) = change_wanted p name opts load_first
+wanted p (commands.Inherit name load_first) = inherit_wanted p name load_first
 wanted p (commands.Mount name) = nothing_wanted
 wanted p (commands.Unmount name) = nothing_wanted
 wanted p (commands.Get name prop) = nothing_wanted
@@ -51,8 +53,8 @@ abbrev pub told : Ciphers → Plain → KeyCmd → LineKit → Told
 told c p (commands.Create name opts) kit = told_create c p name opts kit
 told c p (commands.Load name check_only place) kit = told_load c p kit (id_named name p.tree.rows)
 told c p (commands.Unload name) kit = nothing_told
-told c p (commands.Change name opts load_first) kit = nothing_told
-told c p (commands.Inherit name load_first) kit = nothing_told
+told c p (commands.Change name opts load_first) kit = told_change c p opts load_first kit (id_named name p.tree.rows)
+told c p (commands.Inherit name load_first) kit = told_inherit c p load_first kit (id_named name p.tree.rows)
 told c p (commands.Mount name) kit = nothing_told
 told c p (commands.Unmount name) kit = nothing_told
 told c p (commands.Get name prop) kit = nothing_told
@@ -65,8 +67,8 @@ abbrev pub material_cases : Plain → KeyCmd → Told → List (Option Refusal)
 material_cases p (commands.Create name opts) told = create_material told
 material_cases p (commands.Load name check_only place) told = load_material told
 material_cases p (commands.Unload name) told = []
-material_cases p (commands.Change name opts load_first) told = []
-material_cases p (commands.Inherit name load_first) told = []
+material_cases p (commands.Change name opts load_first) told = change_material told
+material_cases p (commands.Inherit name load_first) told = inherit_material p name told
 material_cases p (commands.Mount name) told = []
 material_cases p (commands.Unmount name) told = []
 material_cases p (commands.Get name prop) told = []
@@ -82,8 +84,8 @@ abbrev pub target : Plain → KeyCmd → Option ℕ
 target p (commands.Create name opts) = None
 target p (commands.Load name check_only place) = id_named name p.tree.rows
 target p (commands.Unload name) = id_named name p.tree.rows
-target p (commands.Change name opts load_first) = None
-target p (commands.Inherit name load_first) = None
+target p (commands.Change name opts load_first) = id_named name p.tree.rows
+target p (commands.Inherit name load_first) = id_named name p.tree.rows
 target p (commands.Mount name) = None
 target p (commands.Unmount name) = None
 target p (commands.Get name prop) = id_named name p.tree.rows
@@ -96,8 +98,8 @@ abbrev pub carried_out : Plain → KeyCmd → Told → Option InUse → Option �
 carried_out p (commands.Create name opts) told found at = create_done p name opts told
 carried_out p (commands.Load name check_only place) told found at = load_done p check_only told at
 carried_out p (commands.Unload name) told found at = unload_done p found at
-carried_out p (commands.Change name opts load_first) told found at = refused p not_built
-carried_out p (commands.Inherit name load_first) told found at = refused p not_built
+carried_out p (commands.Change name opts load_first) told found at = change_done p opts told at
+carried_out p (commands.Inherit name load_first) told found at = inherit_done p told at
 carried_out p (commands.Mount name) told found at = refused p not_built
 carried_out p (commands.Unmount name) told found at = refused p not_built
 carried_out p (commands.Get name prop) told found at = get_done p prop at

@@ -25,17 +25,18 @@ pub fn fair_steps_keep_soundness()
     ensures { (c : Ciphers) (p : Plain) (command : KeyCmd) (told : Told) → Sound c p → IsFair c p command told → Sound c (key_step p command told).state }
 {}
 
-/// What a kit tells is fair in every state, where the ciphers are sound: a new record opens under the key that will own it, and a load is
-/// accepted only where each record that the root owns opens.
+/// What a kit tells is fair in every sound state, where the ciphers are sound: a record that is
+/// written opens under the key that will own it, and to the master key that its family has; and a
+/// load is accepted only where each record that the root owns opens.
 pub fn what_a_kit_tells_is_fair()
-    ensures { (c : Ciphers) (p : Plain) (command : KeyCmd) (kit : LineKit) → AreSound c → IsFair c p command (told c p command kit) }
+    ensures { (c : Ciphers) (p : Plain) (command : KeyCmd) (kit : LineKit) → AreSound c → Sound c p → IsFair c p command (told c p command kit) }
 {}
 
-/// A told key has 32 bytes, and under a fault it is zeros, no salt is told, no record is wrong and none is written.
+/// A told key has 32 bytes, and under a fault it is zeros, no salt is told and no record is written.
 pub fn a_fault_tells_nothing_else()
     ensures key { (c : Ciphers) (p : Plain) (command : KeyCmd) (kit : LineKit) → AreSound c → length (told c p command kit).key ≡ 32 }
     ensures fault { (c : Ciphers) (p : Plain) (command : KeyCmd) (kit : LineKit) (why : Refusal) → (told c p command kit).fault ≡ Some why →
-        told c p command kit ≡ record { fault = Some why; wrong = None; key = no_key; salt = 0; wrapped = [] } }
+        told c p command kit ≡ record { fault = Some why; wrong = (told c p command kit).wrong; key = no_key; salt = 0; wrapped = [] } }
 {}
 
 /// A refused command leaves the state as it is, but that one which is busy has closed the idle mappings of the root's datasets before the

@@ -1,5 +1,5 @@
 -- A create that the state doesn't refuse.
-use Rattle.std.proofs.Common.{◌≡◌, inr, ℕ, ◌+◌, ◌<◌, ◌≤◌, Bool, true, false, not, cond, ◌&&◌, ◌||◌, nat_le, List, [], ◌∷◌, length, map, Option, Some, None, ◌==◌, Result, Ok, Err, is_some, is_none, refl, ap, sym, ◌∙◌, subst, arith}
+use Rattle.std.proofs.Common.{◌≡◌, inr, ℕ, ◌+◌, ◌<◌, ◌≤◌, Bool, true, false, not, cond, ◌&&◌, ◌||◌, nat_le, List, [], ◌∷◌, length, map, Option, Some, None, IfSome, ◌==◌, Result, Ok, Err, is_some, is_none, refl, ap, sym, ◌∙◌, subst, arith}
 use Rattle.std.proofs.lemmas.Bool.Decides.{nat_tests}
 use Rattle.std.proofs.lemmas.List.Elements.{All-nil, All-cons, recursion_from_All}
 use Rattle.dataset_tree.specs.declared.kinds.Kind.TheVariants.{Plain as PlainKind, Crypt}
@@ -19,34 +19,41 @@ use Rattle.dataset_tree.specs.declared.kinds.Format.{Format}
 use Rattle.dataset_tree.specs.declared.kinds.Format.TheVariants.{Raw}
 use Rattle.std.specs.Prelude.{unwrap_or, if◌then◌else◌}
 use Rattle.std.specs.Result.{result_err}
+use Rattle.encryption_roots.specs.declared.command.KeyCmd.{KeyCmd}
 use Rattle.encryption_roots.specs.declared.command.KeyCmd.TheVariants as commands
 use Rattle.encryption_roots.specs.declared.kit.LineKit.{LineKit}
 use Rattle.encryption_roots.specs.declared.props.Location.TheVariants.{Prompt}
 use Rattle.encryption_roots.specs.Props.{KeepsIterations}
 use Rattle.encryption_roots.specs.RecordSize.{IsRecordSize}
 use Rattle.wrapped_keys.specs.Stored.{parsed_record}
-use Rattle.key_machine.specs.Plain.{Plain, Stored, Ciphers, owner_of, mkey}
-use Rattle.key_machine.specs.Create.{makes_root, makes_encrypted, is_below_encrypted, parent_row, parent_key, is_passphrase, told_encrypted, create_key, new_format, new_iters, new_salt, new_suite, seeded_record, new_props, new_stored}
+use Rattle.key_machine.specs.Plain.{Plain, Stored, Ciphers, owner_of, has_key_of, mkey}
+use Rattle.key_machine.specs.Create.{makes_root, makes_heir, makes_encrypted, is_below_encrypted, has_parent_key, parent_row, parent_key, is_passphrase, told_encrypted, create_key, new_format, new_iters, new_salt, new_suite, seeded_record, new_props, new_stored}
 use Rattle.key_machine.specs.Refusals.{first_refusal}
 use Rattle.key_machine.specs.Reply.{Stepped, Made}
 use Rattle.key_machine.specs.Step.{refusal_of, told, key_step}
 use Rattle.key_machine.specs.Told.{Told, nothing_told, no_key, key_of, seed_of}
-use Rattle.key_machine.specs.Fair.{IsGenuine, AllOpen, key_written}
 use Rattle.key_machine.specs.Sound.{Sound}
 use Rattle.key_machine.proofs.SoundLemmas.{accepted_step}
-use Rattle.key_machine.proofs.CreateLawsCases.{created_with, new_row}
+use Rattle.key_machine.proofs.CreateLawsCases.{created_with, new_row, encrypted_row, heir_owner}
 use Rattle.key_machine.proofs.CreateLawsStep.{IsFree, free}
-use Rattle.key_machine.proofs.FairLaws.{keeps}
+use Rattle.key_machine.proofs.FairLaws.{keeps, told_fair}
 use Rattle.key_store.specs.declared.create.NewRoot.{NewRoot}
+use Rattle.key_store.specs.declared.state.FamilyRecord.{FamilyRecord}
+use Rattle.key_ciphers.proofs.CipherLaws.{ciphers_sound}
 use Rattle.key_ciphers.specs.Ciphers.{ciphers}
 use Rattle.key_store.specs.Calls.{stepped}
-use Rattle.key_store.specs.NewRoot.{IsToldRoot, unless_fault}
+use Rattle.key_store.specs.NewRoot.{IsToldFamily, IsToldRoot, unless_fault}
 use Rattle.key_store.specs.State.{stored_of}
 
 pub few_families : (p : Plain) (name : List ℕ) (opts : Options) → IsFree p name opts → makes_encrypted p name opts ≡ true → length p.wrapped < 32
 few_families p name opts is encrypted =
     let test : nat_le 32 (length p.wrapped) ≡ false = rw encrypted at is.families in
     grind (arith, nat_tests)
+
+-- the options' record size, or the one where they have none, is in form
+pub size_in_form : (block : Option ℕ) → IfSome block IsRecordSize → IsRecordSize (unwrap_or block 131072)
+size_in_form None given = refl
+size_in_form (Some block) given = given
 
 -- ---- the new id
 
@@ -58,25 +65,19 @@ pub given_id : (p : Plain) (name : List ℕ) (opts : Options) → IsFree p name 
 given_id p name opts is =
     ap (λ b. cond b (Err Exists) (id_below p.tree (parent_in p.tree.rows (parent_name name)))) is.absent ∙ given_below p.tree (parent_in p.tree.rows (parent_name name)) is.parent is.rows is.ids
 
+-- ---- each command keeps soundness
+
+pub command_sound : (p : Plain) (command : KeyCmd) (kit : LineKit) → Sound ciphers p → Sound ciphers (stepped p command kit).state
+command_sound p command kit sound = keeps ciphers p command (told ciphers p command kit) sound (told_fair ciphers p command kit ciphers_sound sound)
+
 -- ---- a plain dataset
 
-not_below : (format : Option Format) (place iters suite below : Bool) → format ≡ None
-    → (if is_some format then iters && not (is_passphrase format) else place || iters || suite && not below || below) ≡ false → below ≡ false
-not_below None place iters suite below plain good = last_false (place || iters || suite && not below) below good where
-  last_false : (a b : Bool) → (a || b) ≡ false → b ≡ false
-  last_false true b h = absurd (cc)
-  last_false false b h = h
-not_below (Some format) place iters suite below plain good = absurd (cc)
-
-module _ (p : Plain) (name : List ℕ) (opts : Options) (accepted : refusal_of p (commands.Create name opts) ≡ None) (plain : opts.format ≡ None) where
+module _ (p : Plain) (name : List ℕ) (opts : Options) (accepted : refusal_of p (commands.Create name opts) ≡ None) (plain : opts.format ≡ None) (alone : is_below_encrypted p name ≡ false) where
   is_no_root : makes_root opts ≡ false
   is_no_root = ap (λ format. is_some format) plain
 
   is_not_encrypted : makes_encrypted p name opts ≡ false
-  is_not_encrypted =
-      let is : IsFree p name opts = free p name opts accepted in
-      let below : is_below_encrypted p name ≡ false = not_below opts.format (is_some opts.place) (is_some opts.iters) (is_some opts.suite) (is_below_encrypted p name) plain is.options in
-      ap (λ b. b || (not b && is_below_encrypted p name)) is_no_root ∙ below
+  is_not_encrypted = ap (λ b. b || (not b && is_below_encrypted p name)) is_no_root ∙ alone
 
   plain_carried : key_step p (commands.Create name opts) nothing_told ≡ record { state = record p { tree = with_row p.tree name PlainKind 0 }; reply = Made (p.tree.last + 1) }
   plain_carried =
@@ -92,14 +93,8 @@ module _ (p : Plain) (name : List ℕ) (opts : Options) (accepted : refusal_of p
       ap (λ b. cond b (told_encrypted ciphers p name opts (create_key ciphers p name opts kit) (seed_of kit.seed)) nothing_told) is_not_encrypted in
       ap (λ told. key_step p (commands.Create name opts) told) facts ∙ plain_carried
 
-  pub plain_sound : Sound ciphers p → Sound ciphers (record p { tree = with_row p.tree name PlainKind 0 })
-  plain_sound sound =
-      let genuine : IsGenuine ciphers p (commands.Create name opts) nothing_told = record {
-        owned = tt;
-        families = sym (ap (λ b. cond b ((p.tree.last + 1) ∷ []) []) is_not_encrypted);
-        opened = All-nil _;
-      } in
-      subst (λ (s : Stepped). Sound ciphers s.state) plain_carried (keeps ciphers p (commands.Create name opts) nothing_told sound (inr genuine))
+  pub plain_sound : LineKit → Sound ciphers p → Sound ciphers (record p { tree = with_row p.tree name PlainKind 0 })
+  plain_sound kit sound = subst (λ (s : Stepped). Sound ciphers s.state) (plain_step kit) (command_sound p (commands.Create name opts) kit sound)
 
 -- ---- the master key of a family
 
@@ -120,22 +115,14 @@ module _ (p : Plain) (name : List ℕ) (opts : Options) (facts : Told) (root : N
   pub root_step : key_step p (commands.Create name opts) facts ≡ record { state = created_with p name opts facts true true; reply = Made (p.tree.last + 1) }
   root_step =
       let carried : key_step p (commands.Create name opts) facts ≡ record { state = created_with p name opts facts (makes_root opts) (makes_encrypted p name opts); reply = Made (p.tree.last + 1) } =
-      accepted_step p (commands.Create name opts) facts (record { state = accepted; material = ap (λ f. first_refusal (f ∷ [])) is.no_fault }) in
+      accepted_step p (commands.Create name opts) facts (record { state = accepted; material = ap (λ f. first_refusal (f ∷ [])) is.family.no_fault }) in
       carried
       ∙ ap (λ b. record { state = created_with p name opts facts b (makes_encrypted p name opts); reply = Made (p.tree.last + 1) }) is_root
       ∙ ap (λ b. record { state = created_with p name opts facts true b; reply = Made (p.tree.last + 1) }) is_encrypted
 
-  pub root_sound : Sound ciphers p → Sound ciphers (created_with p name opts facts true true)
-  root_sound sound =
-      let key : key_written p (commands.Create name opts) facts ≡ root.key = ap (λ b. cond b facts.key (parent_key p (parent_row p name))) is_root ∙ is.key in
-      let one : AllOpen ciphers root.key ((p.tree.last + 1, root.family.wrapped) ∷ []) =
-      All-cons (λ entry. is_some (ciphers.opens entry.1 root.key) ≡ true) (p.tree.last + 1, root.family.wrapped) [] is.opens (All-nil _) in
-      let genuine : IsGenuine ciphers p (commands.Create name opts) facts = record {
-        owned = tt;
-        families = ap (λ wrapped. map (λ entry. entry.0) wrapped) is.written ∙ sym (ap (λ b. cond b ((p.tree.last + 1) ∷ []) []) is_encrypted);
-        opened = subst (λ (k : List ℕ). AllOpen ciphers k facts.wrapped) (sym key) (subst (λ (w : List (ℕ × List ℕ)). AllOpen ciphers root.key w) (sym is.written) one);
-      } in
-      subst (λ (s : Stepped). Sound ciphers s.state) root_step (keeps ciphers p (commands.Create name opts) facts sound (inr genuine))
+  pub root_sound : (kit : LineKit) → told ciphers p (commands.Create name opts) kit ≡ facts → Sound ciphers p → Sound ciphers (created_with p name opts facts true true)
+  root_sound kit tells sound =
+      subst (λ (s : Stepped). Sound ciphers s.state) (ap (λ f. key_step p (commands.Create name opts) f) tells ∙ root_step) (command_sound p (commands.Create name opts) kit sound)
 
   -- the state that the code makes is the step's
   pub made_state : (id : ℕ) (tree : Datasets) (roots : List (ℕ × Props)) (wrapped : List (ℕ × Stored)) (loaded : List (ℕ × List ℕ)) → id ≡ p.tree.last + 1 → tree ≡ with_row p.tree name Crypt 0
@@ -144,23 +131,131 @@ module _ (p : Plain) (name : List ℕ) (opts : Options) (facts : Told) (root : N
   made_state id tree roots wrapped loaded next tree_is roots_is wrapped_is loaded_is =
       let roots_told : roots ≡ with_id (p.tree.last + 1) (new_props opts facts) p.roots = roots_is ∙ ap (λ i. with_id i root.props p.roots) next ∙ ap (λ v. with_id (p.tree.last + 1) v p.roots) (sym is.props) in
       let wrapped_told : wrapped ≡ with_id (p.tree.last + 1) (new_stored (p.tree.last + 1) opts facts) p.wrapped =
-      wrapped_is ∙ ap (λ i. with_id i (stored_of root.family) p.wrapped) next ∙ ap (λ v. with_id (p.tree.last + 1) v p.wrapped) (sym is.stored) in
+      wrapped_is ∙ ap (λ i. with_id i (stored_of root.family) p.wrapped) next ∙ ap (λ v. with_id (p.tree.last + 1) v p.wrapped) (sym is.family.stored) in
       let loaded_told : loaded ≡ with_id (p.tree.last + 1) facts.key p.loaded = loaded_is ∙ ap (λ i. with_id i root.key p.loaded) next ∙ ap (λ v. with_id (p.tree.last + 1) v p.loaded) (sym is.key) in
       rw (tree_is, roots_told, wrapped_told, loaded_told) refl
 
   -- the new root's key opens its record
-  pub root_opens : Sound ciphers p → is_some (mkey ciphers (created_with p name opts facts true true) (p.tree.last + 1)) ≡ true
-  root_opens sound =
+  pub root_opens : (kit : LineKit) → told ciphers p (commands.Create name opts) kit ≡ facts → Sound ciphers p → is_some (mkey ciphers (created_with p name opts facts true true) (p.tree.last + 1)) ≡ true
+  root_opens kit tells sound =
       let made : Plain = created_with p name opts facts true true in
       let id : ℕ = p.tree.last + 1 in
       let row : Row = new_row p name true in
-      let made_sound : Sound ciphers made = root_sound sound in
+      let made_sound : Sound ciphers made = root_sound kit tells sound in
       let found : row_of id made.tree.rows ≡ Some row = row_of_new p.tree.last p.tree.rows row (recursion_from_All (λ (r : Row). r.id ≤ p.tree.last) p.tree.rows sound.tree.tree.given) (omega arith) in
       let there : is_some (at_id id made.roots) ≡ true = ap (λ at. is_some at) (at_id-with_id id (new_props opts facts) p.roots) in
       let owner : owner_of made id ≡ Some id = owner_of_root made.tree made.roots id row (made_sound.tree.tree, found) refl there in
       let key : mkey ciphers made id ≡ ciphers.opens (new_stored id opts facts).wrapped facts.key =
       mkey_by ciphers made id id (new_stored id opts facts) facts.key (at_id-with_id id (new_stored id opts facts) p.wrapped) owner (at_id-with_id id facts.key p.loaded) in
-      ap (λ m. is_some m) key ∙ ap (λ (s : Stored). is_some (ciphers.opens s.wrapped facts.key)) is.stored ∙ ap (λ (k : List ℕ). is_some (ciphers.opens root.family.wrapped k)) is.key ∙ is.opens
+      ap (λ m. is_some m) key ∙ ap (λ (s : Stored). is_some (ciphers.opens s.wrapped facts.key)) is.family.stored ∙ ap (λ (k : List ℕ). is_some (ciphers.opens root.family.wrapped k)) is.key ∙ is.family.opens
+
+-- the record that a key and a seed make
+told_family : (p : Plain) (name : List ℕ) (opts : Options) (key seed : List ℕ) (family : FamilyRecord) → family.wrapped ≡ seeded_record ciphers (new_suite p name opts) seed key → family.block ≡ unwrap_or opts.block 131072
+    → is_some (ciphers.opens family.wrapped key) ≡ true → is_some (parsed_record family.wrapped) ≡ true → IsRecordSize family.block
+    → IsToldFamily p.tree.last opts (told_encrypted ciphers p name opts (Ok key) (Ok seed)) key family
+told_family p name opts key seed family wrapped block opens in_form size =
+    let id : ℕ = p.tree.last + 1 in
+    let facts : Told = told_encrypted ciphers p name opts (Ok key) (Ok seed) in
+    let found : (id == id) ≡ true = grind (arith, nat_tests) in
+    let written : facts.wrapped ≡ (id, family.wrapped) ∷ [] = ap (λ (w : List ℕ). (id, w) ∷ []) (sym wrapped) in
+    let stored : new_stored id opts facts ≡ stored_of family =
+    ap (λ (w : List (ℕ × List ℕ)). let s : Stored = record { wrapped = unwrap_or (at_id id w) []; block = unwrap_or opts.block 131072 } in s) written
+    ∙ ap (λ b. let s : Stored = record { wrapped = unwrap_or (cond b (Some family.wrapped) None) []; block = unwrap_or opts.block 131072 } in s) found
+    ∙ ap (λ n. let s : Stored = record { wrapped = family.wrapped; block = n } in s) (sym block) in
+    record { no_fault = refl; written = written; stored = stored; opens = opens; in_form = in_form; size = size }
+
+-- ---- an heir
+
+not_first : (first second : Bool) → (not first && second) ≡ true → first ≡ false
+not_first true second both = absurd (cc)
+not_first false second both = refl
+
+is_second : (first second : Bool) → (not first && second) ≡ true → second ≡ true
+is_second true second both = absurd (cc)
+is_second false second both = both
+
+not_lacking : (wants has : Bool) → (wants && not has) ≡ false → wants ≡ true → has ≡ true
+not_lacking true true fine wanted = refl
+not_lacking true false fine wanted = absurd (cc)
+not_lacking false has fine wanted = absurd (cc)
+
+-- the loaded key of an owner
+key_there : (p : Plain) (owner : Option ℕ) → has_key_of p owner ≡ true → (root : ℕ) × (key : List ℕ) × (owner ≡ Some root) × (at_id root p.loaded ≡ Some key)
+key_there p None has = absurd (cc)
+key_there p (Some root) has = by (at_id root p.loaded) refl has where
+  by : (found : Option (List ℕ)) → at_id root p.loaded ≡ found → is_some found ≡ true → (own : ℕ) × (key : List ℕ) × (Some root ≡ Some own) × (at_id own p.loaded ≡ Some key)
+  by None same has = absurd (cc)
+  by (Some key) same has = (root, key, refl, same)
+
+module _ (p : Plain) (name : List ℕ) (opts : Options) (heir : makes_heir p name opts ≡ true) where
+  heir_no_root : makes_root opts ≡ false
+  heir_no_root = not_first (makes_root opts) (is_below_encrypted p name) heir
+
+  heir_below : is_below_encrypted p name ≡ true
+  heir_below = is_second (makes_root opts) (is_below_encrypted p name) heir
+
+  pub heir_encrypted : makes_encrypted p name opts ≡ true
+  heir_encrypted = ap (λ b. b || (not b && is_below_encrypted p name)) heir_no_root ∙ heir_below
+
+  abbrev own_key : List ℕ
+  own_key = parent_key p (parent_row p name)
+
+  told_heir : (kit : LineKit) → told ciphers p (commands.Create name opts) kit ≡ told_encrypted ciphers p name opts (Ok own_key) (seed_of kit.seed)
+  told_heir kit =
+      ap (λ b. cond b (told_encrypted ciphers p name opts (create_key ciphers p name opts kit) (seed_of kit.seed)) nothing_told) heir_encrypted
+      ∙ ap (λ b. told_encrypted ciphers p name opts (cond b (key_of ciphers (new_format opts) (new_iters opts) (new_salt ciphers opts (seed_of kit.seed)) kit.new_key) (Ok own_key)) (seed_of kit.seed)) heir_no_root
+
+  pub heir_fault : (kit : LineKit) (why : Refusal) → seed_of kit.seed ≡ Err why → (told ciphers p (commands.Create name opts) kit).fault ≡ Some why
+  heir_fault kit why failed = ap (λ (facts : Told). facts.fault) (told_heir kit ∙ ap (λ seed. told_encrypted ciphers p name opts (Ok own_key) seed) failed)
+
+  -- the record that the seed makes
+  pub is_told_heir : (kit : LineKit) (seed : List ℕ) (family : FamilyRecord) → seed_of kit.seed ≡ Ok seed → family.wrapped ≡ seeded_record ciphers (new_suite p name opts) seed own_key
+      → family.block ≡ unwrap_or opts.block 131072 → is_some (ciphers.opens family.wrapped own_key) ≡ true → is_some (parsed_record family.wrapped) ≡ true → IsRecordSize family.block
+      → IsToldFamily p.tree.last opts (told ciphers p (commands.Create name opts) kit) own_key family
+  is_told_heir kit seed family had wrapped block opens in_form size =
+      let same : told ciphers p (commands.Create name opts) kit ≡ told_encrypted ciphers p name opts (Ok own_key) (Ok seed) =
+      told_heir kit ∙ ap (λ s. told_encrypted ciphers p name opts (Ok own_key) s) had in
+      subst (λ (t : Told). IsToldFamily p.tree.last opts t own_key family) (sym same) (told_family p name opts own_key seed family wrapped block opens in_form size)
+
+  module _ (facts : Told) (family : FamilyRecord) (accepted : refusal_of p (commands.Create name opts) ≡ None) (is : IsToldFamily p.tree.last opts facts own_key family) where
+    pub heir_step : key_step p (commands.Create name opts) facts ≡ record { state = created_with p name opts facts false true; reply = Made (p.tree.last + 1) }
+    heir_step =
+        let carried : key_step p (commands.Create name opts) facts ≡ record { state = created_with p name opts facts (makes_root opts) (makes_encrypted p name opts); reply = Made (p.tree.last + 1) } =
+        accepted_step p (commands.Create name opts) facts (record { state = accepted; material = ap (λ f. first_refusal (f ∷ [])) is.no_fault }) in
+        carried
+        ∙ ap (λ b. record { state = created_with p name opts facts b (makes_encrypted p name opts); reply = Made (p.tree.last + 1) }) heir_no_root
+        ∙ ap (λ b. record { state = created_with p name opts facts false b; reply = Made (p.tree.last + 1) }) heir_encrypted
+
+    pub heir_sound : (kit : LineKit) → told ciphers p (commands.Create name opts) kit ≡ facts → Sound ciphers p → Sound ciphers (created_with p name opts facts false true)
+    heir_sound kit tells sound =
+        subst (λ (s : Stepped). Sound ciphers s.state) (ap (λ f. key_step p (commands.Create name opts) f) tells ∙ heir_step) (command_sound p (commands.Create name opts) kit sound)
+
+    -- the state that the code makes is the step's
+    pub heir_state : (id : ℕ) (tree : Datasets) (wrapped : List (ℕ × Stored)) → id ≡ p.tree.last + 1 → tree ≡ with_row p.tree name Crypt 0 → wrapped ≡ with_id id (stored_of family) p.wrapped
+        → record p { tree = tree; wrapped = wrapped } ≡ created_with p name opts facts false true
+    heir_state id tree wrapped next tree_is wrapped_is =
+        let wrapped_told : wrapped ≡ with_id (p.tree.last + 1) (new_stored (p.tree.last + 1) opts facts) p.wrapped =
+        wrapped_is ∙ ap (λ i. with_id i (stored_of family) p.wrapped) next ∙ ap (λ v. with_id (p.tree.last + 1) v p.wrapped) (sym is.stored) in
+        rw (tree_is, wrapped_told) refl
+
+    -- the parent's key opens the heir's record
+    pub heir_opens : Sound ciphers p → is_some (mkey ciphers (created_with p name opts facts false true) (p.tree.last + 1)) ≡ true
+    heir_opens sound =
+        let made : Plain = created_with p name opts facts false true in
+        let id : ℕ = p.tree.last + 1 in
+        let free_name : IsFree p name opts = free p name opts accepted in
+        let parent : (row : Row) × (parent_row p name ≡ Some row) × (row.kind ≡ Crypt) = encrypted_row (parent_row p name) heir_below in
+        let has : has_parent_key p (parent_row p name) ≡ true = not_lacking (makes_heir p name opts) (has_parent_key p (parent_row p name)) free_name.key heir in
+        let loaded : has_key_of p (owner_of p parent.0.id) ≡ true = sym (ap (λ row. has_parent_key p row) parent.1) ∙ has in
+        let key = key_there p (owner_of p parent.0.id) loaded in
+        let owner : owner_of made id ≡ Some key.0 = heir_owner ciphers p name opts facts sound free_name.absent free_name.parent parent.0 parent.1 ∙ key.2 in
+        let opened : mkey ciphers made id ≡ ciphers.opens (new_stored id opts facts).wrapped key.1 =
+        mkey_by ciphers made id key.0 (new_stored id opts facts) key.1 (at_id-with_id id (new_stored id opts facts) p.wrapped) owner key.3 in
+        let same : own_key ≡ key.1 = ap (λ row. parent_key p row) parent.1 ∙ known_key (owner_of p parent.0.id) key.0 key.1 key.2 key.3 in
+        ap (λ m. is_some m) opened ∙ ap (λ (s : Stored). is_some (ciphers.opens s.wrapped key.1)) is.stored ∙ ap (λ (k : List ℕ). is_some (ciphers.opens family.wrapped k)) (sym same) ∙ is.opens
+      where
+        known_key : (owner : Option ℕ) (root : ℕ) (key : List ℕ) → owner ≡ Some root → at_id root p.loaded ≡ Some key → unwrap_or (option_and_then (λ root. at_id root p.loaded) owner) no_key ≡ key
+        known_key owner root key is_owner found = rw (is_owner, found) refl
 
 -- ---- what a kit tells of a new root
 
@@ -219,25 +314,14 @@ module _ (p : Plain) (name : List ℕ) (opts : Options) (kit : LineKit) (format 
       → is_some (ciphers.opens root.family.wrapped root.key) ≡ true → is_some (parsed_record root.family.wrapped) ≡ true → IsRecordSize root.family.block → KeepsIterations root.props
       → IsToldRoot p.tree.last opts (told ciphers p (commands.Create name opts) kit) root
   is_told key seed root had behind_key props wrapped block own opens in_form size kept =
-      let id : ℕ = p.tree.last + 1 in
       let facts : Told = told_encrypted ciphers p name opts (Ok key) (Ok seed) in
       let same : told ciphers p (commands.Create name opts) kit ≡ facts =
       told_root ∙ ap (λ s. told_encrypted ciphers p name opts (key_of ciphers format iters (new_salt ciphers opts s) kit.new_key) s) (got_seed seed behind_key)
       ∙ ap (λ k. told_encrypted ciphers p name opts k (Ok seed)) had in
-      let found : (id == id) ≡ true = grind (arith, nat_tests) in
-      let written : facts.wrapped ≡ (id, root.family.wrapped) ∷ [] = ap (λ (w : List ℕ). (id, w) ∷ []) (sym wrapped) in
-      let stored : new_stored id opts facts ≡ stored_of root.family =
-      ap (λ (w : List (ℕ × List ℕ)). let s : Stored = record { wrapped = unwrap_or (at_id id w) []; block = unwrap_or opts.block 131072 } in s) written
-      ∙ ap (λ b. let s : Stored = record { wrapped = unwrap_or (cond b (Some root.family.wrapped) None) []; block = unwrap_or opts.block 131072 } in s) found
-      ∙ ap (λ n. let s : Stored = record { wrapped = root.family.wrapped; block = n } in s) (sym block) in
+      let opens_it : is_some (ciphers.opens root.family.wrapped key) ≡ true = subst (λ (k : List ℕ). is_some (ciphers.opens root.family.wrapped k) ≡ true) own opens in
       subst (λ (t : Told). IsToldRoot p.tree.last opts t root) (sym same) (record {
-        no_fault = refl;
+        family = subst (λ (k : List ℕ). IsToldFamily p.tree.last opts facts k root.family) (sym own) (told_family p name opts key seed root.family wrapped block opens_it in_form size);
         key = ap (λ b. cond b key no_key) makes ∙ sym own;
         props = ap (λ found. let own : Props = record { format = unwrap_or found Raw; place = unwrap_or opts.place Prompt; iters = new_iters opts; salt = new_salt ciphers opts (Ok seed) } in own) is_root ∙ sym props;
-        written = written;
-        stored = stored;
-        opens = opens;
-        in_form = in_form;
-        size = size;
         kept = kept;
       })

@@ -1,24 +1,25 @@
 // New datasets.
 ghost use Rattle.std.specs.Prelude.{◌≡◌, ℕ, ◌<◌, ◌≤◌, ◌+◌, true, false, length, vec_capacity, unwrap_or, is_some, Some, None, IfOk, IfSome, OnOk, OnErr};
+ghost use Rattle.std.specs.Option.{option_copied, option_and_then};
 ghost use Rattle.std.specs.Result.{result_err};
 ghost use Rattle.dataset_tree.specs.Tree.{new_id, with_row};
-ghost use Rattle.encryption_roots.specs.ById.{IsRisingById, with_id};
+ghost use Rattle.encryption_roots.specs.ById.{IsRisingById, at_id, with_id};
 ghost use Rattle.encryption_roots.specs.RecordSize.{IsRecordSize};
 ghost use Rattle.encryption_roots.specs.declared.command.KeyCmd.TheVariants as commands;
-ghost use Rattle.key_machine.specs.Plain.{mkey};
-ghost use Rattle.key_machine.specs.Create.{parent_row, is_passphrase, are_bad_iterations, new_suite, parent_suite, new_iters, new_salt};
+ghost use Rattle.key_machine.specs.Plain.{mkey, owner_of};
+ghost use Rattle.key_machine.specs.Create.{makes_heir, makes_encrypted, is_below_encrypted, parent_row, parent_key, is_passphrase, are_bad_iterations, new_suite, parent_suite, new_iters, new_salt};
 ghost use Rattle.key_machine.specs.Step.{refusal_of, told};
 ghost use Rattle.key_machine.specs.Told.{key_of, seed_of};
 ghost use Rattle.key_ciphers.specs.Ciphers.{ciphers};
 ghost use Rattle.key_store.specs.Calls.{stepped, state_after, AnswersMade};
-ghost use Rattle.key_store.specs.NewRoot.{IsToldRoot, TellsFault, unless_fault};
+ghost use Rattle.key_store.specs.NewRoot.{IsToldRoot, GivesHeir, TellsFault, unless_fault};
 ghost use Rattle.encryption_roots.specs.Props.{KeepsIterations};
 ghost use Rattle.encryption_roots.specs.declared.props.Location.{Location};
 
 use crate::needs::{is_passphrase, place_or_prompt};
 use crate::state::{FamilyRecord, KeyState};
 use dataset_tree::{Format, Kind, NoMemory, Refusal, SetName, Stop, Suite, Tree};
-use encryption_roots::{LineKit, Options, Props, SeedGot, put_at_id};
+use encryption_roots::{LineKit, Options, Props, SeedGot, at_id, owner_of, put_at_id};
 use key_ciphers::{fetched_fault, fetched_key, seeded_record, seeded_salt};
 use salt_rotation::SeedWords;
 use std::alloc::AllocError;
@@ -38,8 +39,8 @@ pub(crate) struct NewRoot {
 }
 
 impl KeyState {
-    /// Makes a dataset and gives its id: an encryption root where the options have a key format, else a plain dataset. A
-    /// root's key is loaded, and opens its record.
+    /// Makes a dataset and gives its id: an encryption root where the options have a key format, else below an encrypted dataset
+    /// one that uses its parent's key, else a plain one. A root's key is loaded, and a key opens the record of what is encrypted.
     ///
     /// # Errors
     /// Those of `needs`, then `KeyFileMissing` or `KeyFault` at the fetch, `BadMaterial`, and `EntropyFault`, before which no key
@@ -48,28 +49,85 @@ impl KeyState {
         requires record_size { IfSome opts.now.block IsRecordSize }
         ensures reply { AnswersMade result (stepped self.old (commands.Create name.now opts.now) kit.now).reply }
         ensures state { self.new ≡ state_after result self.old (stepped self.old (commands.Create name.now opts.now) kit.now).state }
-        ensures opens { IfOk result (λ id. is_some opts.now.format ≡ true → is_some (mkey ciphers self.new id) ≡ true) }
+        ensures opens { IfOk result (λ id. makes_encrypted self.old name.now opts.now ≡ true → is_some (mkey ciphers self.new id) ≡ true) }
         ensures unchanged { OnErr result (self.new ≡ self.old) }
     {
         if let Some(why) = self.create_refusal(name, opts) {
             return Err(Stop::Refused(why));
         }
-        match opts.format {
-            None => self.create_plain(name, opts, kit),
-            Some(format) => self.create_root(name, opts, format, kit),
+        if let Some(format) = opts.format {
+            return self.create_root(name, opts, format, kit);
         }
+        if self.is_below_encrypted(name) {
+            return self.create_heir(name, opts, kit);
+        }
+        self.create_plain(name, opts, kit)
     }
 
     /// Makes a plain dataset.
     fn create_plain(&mut self, name: &SetName, opts: &Options, kit: &LineKit) -> Result<u32, Stop>
         requires accepted { refusal_of self.old (commands.Create name.now opts.now) ≡ None }
-        requires plain { opts.now.format ≡ None }
+        requires no_root { opts.now.format ≡ None }
+        requires no_heir { is_below_encrypted self.old name.now ≡ false }
         ensures reply { AnswersMade result (stepped self.old (commands.Create name.now opts.now) kit.now).reply }
         ensures state { self.new ≡ state_after result self.old (stepped self.old (commands.Create name.now opts.now) kit.now).state }
         ensures unchanged { OnErr result (self.new ≡ self.old) }
     {
         let id = add_free(&mut self.tree, name, Kind::Plain)?;
         Ok(id)
+    }
+
+    /// Makes a dataset that uses its parent's key.
+    fn create_heir(&mut self, name: &SetName, opts: &Options, kit: &LineKit) -> Result<u32, Stop>
+        requires accepted { refusal_of self.old (commands.Create name.now opts.now) ≡ None }
+        requires heir { makes_heir self.old name.now opts.now ≡ true }
+        requires record_size { IfSome opts.now.block IsRecordSize }
+        ensures reply { AnswersMade result (stepped self.old (commands.Create name.now opts.now) kit.now).reply }
+        ensures state { self.new ≡ state_after result self.old (stepped self.old (commands.Create name.now opts.now) kit.now).state }
+        ensures opens { IfOk result (λ id. is_some (mkey ciphers self.new id) ≡ true) }
+        ensures unchanged { OnErr result (self.new ≡ self.old) }
+    {
+        let family = match self.new_heir(name, opts, kit) {
+            Ok(family) => family,
+            Err(why) => return Err(Stop::Refused(why)),
+        };
+        let id = add_free(&mut self.tree, name, Kind::Crypt)?;
+        put_with_room(&mut self.records, id, family);
+        Ok(id)
+    }
+
+    /// The record that the seed of a line makes under the parent's key.
+    fn new_heir(&self, name: &SetName, opts: &Options, kit: &LineKit) -> Result<FamilyRecord, Refusal>
+        requires heir { makes_heir self.now name.now opts.now ≡ true }
+        requires record_size { IfSome opts.now.block IsRecordSize }
+        ensures { GivesHeir self.now.tree.last opts.now (told ciphers self.now (commands.Create name.now opts.now) kit.now) (parent_key self.now (parent_row self.now name.now)) result }
+    {
+        let seed = match seed_got(kit.seed) {
+            Ok(seed) => SeedWords::new(seed),
+            Err(why) => return Err(why),
+        };
+        let key = self.parent_key(name);
+        let wrapped = seeded_record(&seed, self.new_suite(name, opts), &key);
+        let block = opts.block.unwrap_or(DEFAULT_RECORD_SIZE);
+        Ok(FamilyRecord { wrapped, block })
+    }
+
+    /// The key of the parent's owner, and zeros where it isn't loaded.
+    fn parent_key(&self, name: &SetName) -> [u8; 32]
+        ensures { result ≡ parent_key self.now (parent_row self.now name.now) }
+    {
+        match self.loaded_above(name) {
+            None => [0; 32],
+            Some(key) => *key,
+        }
+    }
+
+    fn loaded_above(&self, name: &SetName) -> Option<&[u8; 32]>
+        ensures { option_copied result ≡ option_and_then (λ root. at_id root self.now.loaded) (option_and_then (λ parent. owner_of self.now parent.id) (parent_row self.now name.now)) }
+    {
+        let parent = self.parent_row(name)?;
+        let root = owner_of(&self.tree, &self.roots, parent.id)?;
+        at_id(self.loaded.as_slice(), root)
     }
 
     /// Makes an encryption root.

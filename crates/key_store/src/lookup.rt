@@ -73,7 +73,7 @@ fn row_in<'a>(rows: &'a [Row], name: &[u8]) -> Option<&'a Row>
 }
 
 /// Whether there is a dataset and it is encrypted.
-fn is_encrypted(row: Option<&Row>) -> bool
+pub(crate) fn is_encrypted(row: Option<&Row>) -> bool
     ensures { result ≡ is_encrypted_row (option_copied row.entry) }
 {
     match row {

@@ -4,18 +4,22 @@ ghost use Rattle.std.specs.Option.{option_copied};
 ghost use Rattle.dataset_tree.specs.Refusal.{Gives};
 ghost use Rattle.encryption_roots.specs.declared.command.KeyCmd.TheVariants as commands;
 ghost use Rattle.dataset_tree.specs.Tree.{row_named, id_named};
+ghost use Rattle.key_machine.specs.Change.{are_bad_changes, change_cases, changed_format};
 ghost use Rattle.key_machine.specs.Create.{makes_heir, makes_encrypted, parent_row, create_cases, is_passphrase, are_bad_options, are_bad_iterations, has_parent_key};
 ghost use Rattle.key_machine.specs.Get.{get_cases};
+ghost use Rattle.key_machine.specs.Inherit.{inherit_cases};
 ghost use Rattle.key_machine.specs.Load.{load_cases, own_place};
 ghost use Rattle.key_machine.specs.Refusals.{first_of, root_cases};
+ghost use Rattle.key_machine.specs.Rekey.{old_place};
 ghost use Rattle.key_machine.specs.Step.{refusal_of, wanted};
 ghost use Rattle.key_machine.specs.Told.{nothing_wanted};
 ghost use Rattle.key_machine.specs.Unload.{unload_cases};
 ghost use Rattle.key_store.specs.Calls.{needed, needs_of, GivesRoot};
 
+use crate::lookup::is_encrypted;
 use crate::state::{KeyState, MAX_FAMILIES};
-use dataset_tree::{Format, Kind, NoMemory, Refusal, SetName, Stop};
-use encryption_roots::{KeyCmd, Location, Options};
+use dataset_tree::{Format, Kind, NoMemory, Refusal, Row, SetName, Stop};
+use encryption_roots::{KeyCmd, Location, Options, Props};
 
 /// The most datasets of a host.
 const MAX_DATASETS: usize = 256;
@@ -61,7 +65,11 @@ impl KeyState {
     /// # Errors
     /// The refusal that the state decides, the first in the command's order. `create`: `Exists`, `NoParent`, `BadOptions`,
     /// `BadIters`, `KeyUnavailable`, `Full` (datasets, ids, families). `load` and `unload`: `NoSuch`, `NotEncrypted`, `NotRoot`,
-    /// then `KeyLoaded` or `KeyUnavailable`. `get`: `NoSuch`. A command that isn't built yet is refused by `BadOptions`.
+    /// then `KeyLoaded` or `KeyUnavailable`. `get`: `NoSuch`. A change of the key: `NoSuch`, `NotEncrypted`, `IsClone`,
+    /// `BadOptions`, `BadIters`, and `KeyUnavailable` where the present key is neither loaded nor to be fetched. A root that is to
+    /// inherit its parent's key: `NoSuch`, `NotEncrypted`, `IsClone`, `NotRoot`, `NoEncryptedParent`, `KeyUnavailable` for the
+    /// present key, and for that of the parent's owner, where the present key isn't to be fetched. A command that isn't built
+    /// yet is refused by `BadOptions`.
     pub fn needs(&self, cmd: &KeyCmd) -> Result<Needs, Stop>
         ensures { Gives result (needed self.now cmd.now) }
     {
@@ -84,9 +92,13 @@ impl KeyState {
             } => self.load_root(name, *check_only).err(),
             KeyCmd::Unload { name } => self.unload_root(name).err(),
             KeyCmd::Get { name, .. } => self.get_refusal(name),
-            KeyCmd::Change { .. }
-            | KeyCmd::Inherit { .. }
-            | KeyCmd::Mount { .. }
+            KeyCmd::Change {
+                name,
+                opts,
+                load_first,
+            } => self.change_refusal(name, opts, *load_first),
+            KeyCmd::Inherit { name, load_first } => self.inherit_refusal(name, *load_first),
+            KeyCmd::Mount { .. }
             | KeyCmd::Unmount { .. }
             | KeyCmd::Clone { .. }
             | KeyCmd::Receive { .. }
@@ -100,9 +112,13 @@ impl KeyState {
         match cmd {
             KeyCmd::Create { name, opts } => self.wanted_by_create(name, opts),
             KeyCmd::Load { name, place, .. } => self.wanted_by_load(name, place),
+            KeyCmd::Change {
+                name,
+                opts,
+                load_first,
+            } => self.wanted_by_change(name, opts, *load_first),
+            KeyCmd::Inherit { name, load_first } => self.wanted_by_inherit(name, *load_first),
             KeyCmd::Unload { .. }
-            | KeyCmd::Change { .. }
-            | KeyCmd::Inherit { .. }
             | KeyCmd::Mount { .. }
             | KeyCmd::Unmount { .. }
             | KeyCmd::Get { .. }
@@ -130,15 +146,57 @@ impl KeyState {
     fn wanted_by_load(&self, name: &SetName, place: &Option<Location>) -> Result<Needs, NoMemory>
         ensures { IfOk result (λ needs. needs ≡ record { old_place = None; new_place = Some (unwrap_or place.now (unwrap_or (own_place self.now name.now) Location.Prompt)); seed = false }) }
     {
-        let place = match place {
-            Some(place) => place.copy()?,
-            None => place_or_prompt(self.own_place(name))?,
-        };
+        let new_place = self.place_of_new_key(name, place)?;
         Ok(Needs {
             old_place: None,
-            new_place: Some(place),
+            new_place: Some(new_place),
             seed: false,
         })
+    }
+
+    fn wanted_by_change(&self, name: &SetName, opts: &Options, load_first: bool) -> Result<Needs, NoMemory>
+        ensures { IfOk result (λ needs. needs ≡ needs_of (wanted self.now (commands.Change name.now opts.now load_first))) }
+    {
+        let old_place = place_or_none(self.old_place(name, load_first))?;
+        let new_place = self.place_of_new_key(name, &opts.place)?;
+        Ok(Needs {
+            old_place,
+            new_place: Some(new_place),
+            seed: true,
+        })
+    }
+
+    fn wanted_by_inherit(&self, name: &SetName, load_first: bool) -> Result<Needs, NoMemory>
+        ensures { IfOk result (λ needs. needs ≡ needs_of (wanted self.now (commands.Inherit name.now load_first))) }
+    {
+        let old_place = place_or_none(self.old_place(name, load_first))?;
+        Ok(Needs {
+            old_place,
+            new_place: None,
+            seed: true,
+        })
+    }
+
+    /// The command's place, else the dataset's own, else the prompt.
+    fn place_of_new_key(&self, name: &SetName, place: &Option<Location>) -> Result<Location, NoMemory>
+        ensures { IfOk result (λ found. found ≡ unwrap_or place.now (unwrap_or (own_place self.now name.now) Location.Prompt)) }
+    {
+        match place {
+            Some(place) => place.copy(),
+            None => place_or_prompt(self.own_place(name)),
+        }
+    }
+
+    /// The location of the present owner's key, where that key is to be fetched.
+    fn old_place(&self, name: &SetName, load_first: bool) -> Option<&Location>
+        ensures { option_copied result ≡ old_place self.now load_first (row_named name.now self.now.tree.rows) }
+    {
+        let row = self.row_named(name.as_bytes())?;
+        if !load_first || self.status(row.id) {
+            return None;
+        }
+        let props = self.owner_props(row.id)?;
+        Some(&props.place)
     }
 
     /// The dataset's own key location, where it is a root.
@@ -183,6 +241,62 @@ impl KeyState {
             return Some(Refusal::Full {
                 limit: MAX_FAMILIES as u64,
             });
+        }
+        None
+    }
+
+    /// Why the state refuses a change of the key.
+    fn change_refusal(&self, name: &SetName, opts: &Options, load_first: bool) -> Option<Refusal>
+        ensures { result ≡ first_of (change_cases self.now name.now opts.now load_first) }
+    {
+        let Some(row) = self.row_named(name.as_bytes()) else {
+            return Some(Refusal::NoSuch);
+        };
+        if row.kind != Kind::Crypt {
+            return Some(Refusal::NotEncrypted);
+        }
+        if row.origin != 0 {
+            return Some(Refusal::IsClone);
+        }
+        if are_bad_changes(self.roots.get(row.id), opts) {
+            return Some(Refusal::BadOptions);
+        }
+        if are_bad_iterations(opts.iters) {
+            return Some(Refusal::BadIters);
+        }
+        if !load_first && !self.status(row.id) {
+            return Some(Refusal::KeyUnavailable);
+        }
+        None
+    }
+
+    /// Why the state refuses that a root inherits its parent's key. Where the present key is to be fetched, a parent whose key
+    /// isn't loaded is refused later, behind that key.
+    fn inherit_refusal(&self, name: &SetName, load_first: bool) -> Option<Refusal>
+        ensures { result ≡ first_of (inherit_cases self.now name.now load_first) }
+    {
+        let Some(row) = self.row_named(name.as_bytes()) else {
+            return Some(Refusal::NoSuch);
+        };
+        if row.kind != Kind::Crypt {
+            return Some(Refusal::NotEncrypted);
+        }
+        if row.origin != 0 {
+            return Some(Refusal::IsClone);
+        }
+        if !self.is_root(row.id) {
+            return Some(Refusal::NotRoot);
+        }
+        let above = self.tree.row(row.parent);
+        if !is_encrypted(above) {
+            return Some(Refusal::NoEncryptedParent);
+        }
+        let is_loaded = self.status(row.id);
+        if !load_first && !is_loaded {
+            return Some(Refusal::KeyUnavailable);
+        }
+        if is_loaded && !self.has_key_of(above) {
+            return Some(Refusal::KeyUnavailable);
         }
         None
     }
@@ -257,9 +371,16 @@ impl KeyState {
     fn has_parent_key(&self, name: &SetName) -> bool
         ensures { result ≡ has_parent_key self.now (parent_row self.now name.now) }
     {
-        match self.parent_row(name) {
+        self.has_key_of(self.parent_row(name))
+    }
+
+    /// Whether there is a dataset and its key is loaded.
+    fn has_key_of(&self, row: Option<&Row>) -> bool
+        ensures { result ≡ has_parent_key self.now (option_copied row.entry) }
+    {
+        match row {
             None => false,
-            Some(parent) => self.status(parent.id),
+            Some(row) => self.status(row.id),
         }
     }
 
@@ -270,10 +391,7 @@ impl KeyState {
         let below = self.is_below_encrypted(name);
         match opts.format {
             Some(_) => opts.iters.is_some() && !is_passphrase(opts.format),
-            None => opts.place.is_some()
-                || opts.iters.is_some()
-                || opts.suite.is_some() && !below
-                || below,
+            None => opts.place.is_some() || opts.iters.is_some() || opts.suite.is_some() && !below,
         }
     }
 }
@@ -284,12 +402,41 @@ pub(crate) fn is_passphrase(format: Option<Format>) -> bool
     format == Some(Format::Passphrase)
 }
 
+/// Whether the options of a change don't go together, for a dataset with these properties of its own.
+fn are_bad_changes(own: Option<&Props>, opts: &Options) -> bool
+    ensures { result ≡ are_bad_changes (option_copied own.entry) opts.now }
+{
+    own.is_none() && opts.format.is_none()
+        || opts.iters.is_some() && !is_passphrase(Some(changed_format(own, opts)))
+}
+
+/// The key format after a change: that of the options, else the dataset's own.
+fn changed_format(own: Option<&Props>, opts: &Options) -> Format
+    ensures { result ≡ changed_format (option_copied own.entry) opts.now }
+{
+    match (opts.format, own) {
+        (Some(format), _) => format,
+        (None, Some(props)) => props.format,
+        (None, None) => Format::Raw,
+    }
+}
+
 fn are_bad_iterations(iters: Option<u64>) -> bool
     ensures { result ≡ are_bad_iterations iters }
 {
     match iters {
         None => false,
         Some(iters) => iters < MIN_ITERATIONS || iters > MAX_ITERATIONS,
+    }
+}
+
+/// An equal location, where there is one.
+fn place_or_none(place: Option<&Location>) -> Result<Option<Location>, NoMemory>
+    ensures { IfOk result (λ copied. copied ≡ option_copied place.entry) }
+{
+    match place {
+        None => Ok(None),
+        Some(place) => Ok(Some(place.copy()?)),
     }
 }
 

@@ -83,7 +83,7 @@ impl KeyState {
     }
 
     /// The properties of a dataset's encryption root.
-    fn owner_props(&self, id: u32) -> Option<&Props>
+    pub(crate) fn owner_props(&self, id: u32) -> Option<&Props>
         ensures { option_copied result ≡ owner_props self.now (owner_of self.now id) }
     {
         self.roots.get(owner_of(&self.tree, &self.roots, id)?)

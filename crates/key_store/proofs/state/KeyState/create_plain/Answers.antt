@@ -1,8 +1,9 @@
-use Rattle.std.proofs.Common.{◌≡◌, None, sym, subst}
+use Rattle.std.proofs.Common.{◌≡◌, false, None, sym, subst}
 use Rattle.dataset_tree.specs.declared.kinds.Kind.TheVariants.{Plain as PlainKind}
 use Rattle.dataset_tree.specs.Tree.{Datasets, with_row}
 use Rattle.encryption_roots.specs.declared.command.KeyCmd.TheVariants as commands
 use Rattle.key_machine.specs.Plain.{Plain}
+use Rattle.key_machine.specs.Create.{is_below_encrypted}
 use Rattle.key_machine.specs.Step.{refusal_of}
 use Rattle.key_machine.specs.Sound.{Sound}
 use Rattle.key_ciphers.specs.Ciphers.{ciphers}
@@ -21,7 +22,8 @@ pub invariant_of-self-2 : goal.invariant_of-self-2
 invariant_of-self-2 c =
     let before : Plain = plain_of c.self.inside in
     let accepted : refusal_of before (commands.Create c.args.name.now c.args.opts.now) ≡ None = subst (λ (p : Plain). refusal_of p (commands.Create c.args.name.now c.args.opts.now) ≡ None) (sym c.self.view_is) c.requires.accepted in
-    let sound : Sound ciphers (record before { tree = with_row before.tree c.args.name.now PlainKind 0 }) = plain_sound before c.args.name.now c.args.opts.now accepted c.requires.plain c.self.invariant.sound in
+    let alone : is_below_encrypted before c.args.name.now ≡ false = subst (λ (p : Plain). is_below_encrypted p c.args.name.now ≡ false) (sym c.self.view_is) c.requires.no_heir in
+    let sound : Sound ciphers (record before { tree = with_row before.tree c.args.name.now PlainKind 0 }) = plain_sound before c.args.name.now c.args.opts.now accepted c.requires.no_root alone c.args.kit.now c.self.invariant.sound in
     record {
       sound = subst (λ (t : Datasets). Sound ciphers (record before { tree = t })) (sym c.in_ok-id.ensures.added) sound;
       records = c.self.invariant.records;

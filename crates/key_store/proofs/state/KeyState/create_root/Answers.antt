@@ -1,4 +1,4 @@
-use Rattle.std.proofs.Common.{◌≡◌, ◌<◌, ◌≤◌, ℕ, List, length, true, not, ◌&&◌, ◌||◌, false, is_some, is_err, None, Ok, Err, Result, OnOk, OnErr, sym, ap, ◌∙◌, subst, arith}
+use Rattle.std.proofs.Common.{◌≡◌, ◌<◌, ◌≤◌, ℕ, List, length, true, not, ◌&&◌, ◌||◌, false, is_some, is_err, None, Ok, Err, Result, OnOk, OnErr, refl, sym, ap, ◌∙◌, subst, arith}
 use Rattle.std.proofs.lemmas.List.{length-map}
 use Rattle.std.specs.List.{All}
 use Rattle.encryption_roots.specs.declared.command.KeyCmd.{KeyCmd}
@@ -105,13 +105,13 @@ invariant_of-self-2 c =
     let id : ℕ = c.in_ok-id.id in
     let family : FamilyRecord = c.in_ok-root.root.family in
     let in_form : All (λ entry. is_some (parsed_record entry.1.wrapped) ≡ true) (with_id id family c.self.inside.records.items) =
-    All-with_id (λ entry. is_some (parsed_record entry.1.wrapped) ≡ true) id family c.self.inside.records.items c.self.invariant.records is.in_form in
+    All-with_id (λ entry. is_some (parsed_record entry.1.wrapped) ≡ true) id family c.self.inside.records.items c.self.invariant.records is.family.in_form in
     let sizes : All (λ entry. IsRecordSize entry.1.block) (with_id id family c.self.inside.records.items) =
-    All-with_id (λ entry. IsRecordSize entry.1.block) id family c.self.inside.records.items c.self.invariant.sizes is.size in
+    All-with_id (λ entry. IsRecordSize entry.1.block) id family c.self.inside.records.items c.self.invariant.sizes is.family.size in
     let props : All (λ entry. KeepsIterations entry.1) (with_id id c.in_ok-root.root.props c.self.inside.roots) =
     All-with_id (λ entry. KeepsIterations entry.1) id c.in_ok-root.root.props c.self.inside.roots c.self.invariant.props is.kept in
     record {
-      sound = subst (λ (p : Plain). Sound ciphers p) (sym (made c)) (root_sound before c.args.name.now c.args.opts.now facts c.in_ok-root.root (accepted_at c) root is c.self.invariant.sound);
+      sound = subst (λ (p : Plain). Sound ciphers p) (sym (made c)) (root_sound before c.args.name.now c.args.opts.now facts c.in_ok-root.root (accepted_at c) root is c.args.kit.now refl c.self.invariant.sound);
       records = subst (λ (records : List (ℕ × FamilyRecord)). All (λ entry. is_some (parsed_record entry.1.wrapped) ≡ true) records) (sym c.put_with_room.ensures.put) in_form;
       sizes = subst (λ (records : List (ℕ × FamilyRecord)). All (λ entry. IsRecordSize entry.1.block) records) (sym c.put_with_room.ensures.put) sizes;
       props = subst (λ (roots : List (ℕ × Props)). All (λ entry. KeepsIterations entry.1) roots) (sym (inserted c)) props;
@@ -137,6 +137,6 @@ returns-clause-opens c =
     let before : Plain = plain_of c.self.inside in
     let facts : Told = told ciphers before (commands.Create c.args.name.now c.args.opts.now) c.args.kit.now in
     let root : makes_root c.args.opts.now ≡ true = ap (λ format. is_some format) c.requires.root in
-    let opens = root_opens before c.args.name.now c.args.opts.now facts c.in_ok-root.root (accepted_at c) root (told_root c) c.self.invariant.sound in
+    let opens = root_opens before c.args.name.now c.args.opts.now facts c.in_ok-root.root (accepted_at c) root (told_root c) c.args.kit.now refl c.self.invariant.sound in
     subst (λ (p : Plain). is_some (mkey ciphers p c.in_ok-id.id) ≡ true) (sym (made c))
     (subst (λ (id : ℕ). is_some (mkey ciphers (created_with before c.args.name.now c.args.opts.now facts true true) id) ≡ true) (sym c.in_ok-id.ensures.id) opens)

@@ -1,4 +1,4 @@
-use Rattle.std.proofs.Common.{◌≡◌, ℕ, List, Option, Some, None, Result, Ok, IfSome, is_some, refl, ap, sym, ◌∙◌, subst}
+use Rattle.std.proofs.Common.{◌≡◌, ℕ, List, Some, Result, Ok, is_some, refl, ap, sym, ◌∙◌, subst}
 use Rattle.std.specs.Prelude.{unwrap_or}
 use Rattle.dataset_tree.specs.declared.kinds.Format.{Format}
 use Rattle.dataset_tree.specs.declared.refusal.Refusal.{Refusal}
@@ -11,7 +11,7 @@ use Rattle.encryption_roots.specs.RecordSize.{IsRecordSize}
 use Rattle.key_machine.specs.Create.{new_iters, new_salt, new_suite, seeded_record}
 use Rattle.key_machine.specs.Told.{key_of}
 use Rattle.key_ciphers.specs.Ciphers.{ciphers}
-use Rattle.key_store.proofs.CreateLemmas.{stopped, key_stopped, is_told}
+use Rattle.key_store.proofs.CreateLemmas.{size_in_form, stopped, key_stopped, is_told}
 use Rattle.key_store.proofs.state.KeyState.new_root.Goals as goal
 
 pub returns-in-Err-clause-fault : goal.returns-in-Err-clause-fault
@@ -34,11 +34,6 @@ returns-in-Err-fetched_key-clause-fault c =
     c.new-seed.ensures c.in_ok-props.ensures.props c.fetched_key.ensures
     ∙ c.in-Err-fetched_key.is)
 
--- the options' record size, or the one where they have none, is in form
-in_form : (block : Option ℕ) → IfSome block IsRecordSize → IsRecordSize (unwrap_or block 131072)
-in_form None given = refl
-in_form (Some block) given = given
-
 pub returns-clause-root : goal.returns-clause-root
 returns-clause-root c =
     let seed : c.new-seed.result ≡ c.in-Ok.seed = c.new-seed.ensures in
@@ -52,4 +47,4 @@ returns-clause-root c =
     is_told c.args.self.now c.args.name.now c.args.opts.now c.args.kit.now c.args.format c.requires.root c.new_iters.result c.new_iters.ensures.iters c.seed_behind_key.result c.seed_behind_key.ensures key c.in-Ok.seed
     (record { props = c.in_ok-props.props; family = record { wrapped = c.seeded_record-wrapped.result; block = c.unwrap_or-block.result }; key = key })
     (derived ∙ c.in-Ok-fetched_key.is) c.in-Ok.is props sealed c.unwrap_or-block.ensures refl (ap (λ found. is_some found) c.seeded_record-wrapped.ensures.opens) c.seeded_record-wrapped.ensures.in_form
-    (subst IsRecordSize (sym c.unwrap_or-block.ensures) (in_form c.args.opts.now.block c.requires.record_size)) c.in_ok-props.ensures.kept
+    (subst IsRecordSize (sym c.unwrap_or-block.ensures) (size_in_form c.args.opts.now.block c.requires.record_size)) c.in_ok-props.ensures.kept
