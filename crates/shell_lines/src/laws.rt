@@ -1,5 +1,5 @@
 // Laws of the language, above the definitions that `parse_line` is proved against.
-ghost use Rattle.std.specs.Prelude.{◌≡◌, ◌≢◌, ℕ, ◌<◌, ◌↔◌, true, List, [], None, Some, length, slice_index};
+ghost use Rattle.std.specs.Prelude.{◌≡◌, ◌≢◌, ℕ, ◌<◌, ◌↔◌, true, false, List, [], None, Some, length, slice_index};
 ghost use Rattle.std.specs.List.{All};
 ghost use lib.Chars.{codes};
 ghost use Rattle.dataset_tree.specs.declared.kinds.Format.TheVariants.{Hex, Passphrase};
@@ -32,8 +32,9 @@ pub fn options_say_what_they_spell()
         { format = Some Passphrase; place = Some Prompt; iters = Some 100000 })) }
     ensures hex { line_of (codes "create -o keyformat=hex t") 0
         ≡ Ok (Create (codes "t") (record no_options { format = Some Hex })) }
-    ensures load { line_of (codes "load-key -L file:///k -n t") 0
-        ≡ Ok (LoadKey (codes "t") true (Some (File (codes "/k")))) }
+    ensures tested { line_of (codes "load-key -n t") 0 ≡ Ok (LoadKey (codes "t") true None) }
+    ensures fetched { line_of (codes "load-key -L file:///k t") 0
+        ≡ Ok (LoadKey (codes "t") false (Some (File (codes "/k")))) }
     ensures once { line_of (codes "load-key -n -n t") 0 ≡ Err 12 }
 {}
 
