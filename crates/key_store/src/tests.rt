@@ -4,50 +4,77 @@ ghost use Rattle.encryption_roots.specs.RecordSize.{IsRecordSize};
 
 use super::*;
 use dataset_tree::{Format, MaterialFault, Refusal, SetName, Stop};
-use encryption_roots::{Fetched, KeyCmd, LineKit, Location, Material, Options, Prop, SeedGot};
+use encryption_roots::{Fetched, KeyCmd, LineKit, Material, Options, Prop, SeedGot};
 use std::alloc::Global;
 use std::test::Fail;
 
-fn kit(alloc: Global, phrase: &[u8], seed: SeedGot) -> Result<LineKit, Fail> {
-    Ok(LineKit {
-        old_key: Fetched::Missing,
-        new_key: Fetched::Got(Material::new(phrase.to_vec(alloc)?)),
-        seed,
-    })
-}
+const SEED: SeedGot = SeedGot::Got(*b"a seed of thirty-two bytes, here");
 
-// The options of a passphrase with the fewest iterations.
-fn phrase_options() -> Options
+// By a ChaCha20 written in Python after RFC 8439, with a block counter of 64 bits: the words of the seed at the places 34 and 35,
+// least significant byte first.
+const SALT: u64 = 5_487_672_229_401_127_113;
+
+const RAW_KEY: &[u8] = b"a key of thirty-two bytes, there";
+
+fn options(format: Format, iters: Option<u64>) -> Options
     ensures { IfSome result.block IsRecordSize }
 {
     Options {
         suite: None,
-        format: Some(Format::Passphrase),
+        format: Some(format),
         place: None,
-        iters: Some(100_000),
+        iters,
         block: None,
     }
 }
 
-// The salt by a ChaCha20 written in Python after RFC 8439, with a block counter of 64 bits: the words of this seed at the places
-// 34 and 35, least significant byte first.
-const SEED: SeedGot = SeedGot::Got(*b"a seed of thirty-two bytes, here");
+fn kit(alloc: Global, phrase: &[u8], seed: SeedGot) -> Result<LineKit, Fail> {
+    let material = Material::new(phrase.to_vec(alloc)?);
+    Ok(LineKit {
+        old_key: Fetched::NotAsked,
+        new_key: Fetched::Got(material),
+        seed,
+    })
+}
 
-const SALT: u64 = 5_487_672_229_401_127_113;
+fn tank(alloc: Global) -> Result<SetName, Fail> {
+    Ok(SetName::parse(alloc, b"tank")?)
+}
+
+// A keystore with the root `tank`.
+fn with_root(
+    alloc: Global,
+    opts: &Options,
+    phrase: &[u8],
+    seed: SeedGot,
+) -> Result<Result<KeyState, Stop>, Fail>
+    requires { IfSome opts.now.block IsRecordSize }
+{
+    let name = tank(alloc)?;
+    let kit = kit(alloc, phrase, seed)?;
+    let mut state = KeyState::new(alloc)?;
+    match state.create(&name, opts, &kit) {
+        Ok(_) => Ok(Ok(state)),
+        Err(stop) => Ok(Err(stop)),
+    }
+}
+
+#[test]
+fn bad_material_comes_before_a_failed_seed(rt: HostRuntime) -> Result<(), Fail> {
+    let opts = options(Format::Passphrase, None);
+    let made = with_root(rt.alloc(), &opts, b"horse", SeedGot::Fault)?;
+    let fault = MaterialFault::Short;
+    assert_eq!(rt;
+        made.err(),
+        Some(Stop::Refused(Refusal::BadMaterial { fault }))
+    );
+    Ok(())
+}
 
 #[test]
 fn a_passphrase_root_has_the_salt_of_its_seed(rt: HostRuntime) -> Result<(), Fail> {
-    let alloc = rt.alloc();
-    let mut state = KeyState::new(alloc)?;
-    let name = SetName::parse(alloc, b"tank")?;
-    let bad = kit(alloc, b"horse", SeedGot::Fault)?;
-    let refused = state.create(&name, &phrase_options(), &bad);
-    let short = Refusal::BadMaterial {
-        fault: MaterialFault::Short,
-    };
-    assert_eq!(rt; refused, Err(Stop::Refused(short)));
-    let good = kit(alloc, b"correct horse", SEED)?;
-    assert_eq!(rt; state.create(&name, &phrase_options(), &good), Ok(1));
+    let opts = options(Format::Passphrase, Some(100_000));
+    let state = with_root(rt.alloc(), &opts, b"correct horse", SEED)??;
     let props = state.roots().get(1).ok_or("no root")?;
     assert_eq!(rt; (props.iters, props.salt), (100_000, SALT));
     Ok(())
@@ -56,30 +83,28 @@ fn a_passphrase_root_has_the_salt_of_its_seed(rt: HostRuntime) -> Result<(), Fai
 #[test]
 fn a_raw_root_is_loaded_again(rt: HostRuntime) -> Result<(), Fail> {
     let alloc = rt.alloc();
-    let mut state = KeyState::new(alloc)?;
-    let name = SetName::parse(alloc, b"tank")?;
-    let raw = Options {
-        format: Some(Format::Raw),
-        ..Options::none()
-    };
-    let kit = kit(alloc, &[b'k'; 32], SEED)?;
-    assert_eq!(rt; state.create(&name, &raw, &kit), Ok(1));
-    let props = state.roots().get(1).ok_or("no root")?;
-    assert_eq!(rt; (props.iters, props.salt), (0, 0));
+    let mut state = with_root(alloc, &options(Format::Raw, None), RAW_KEY, SEED)??;
+    let name = tank(alloc)?;
+    let kit = kit(alloc, RAW_KEY, SEED)?;
     state.unload(&name)?;
-    assert_eq!(rt; state.load(&name, true, &kit), Ok(()));
+    state.load(&name, true, &kit)?;
     assert!(rt; !state.status(1));
-    assert_eq!(rt; state.load(&name, false, &kit), Ok(()));
+    state.load(&name, false, &kit)?;
+    assert!(rt; state.status(1));
+    Ok(())
+}
+
+#[test]
+fn a_plain_dataset_has_no_key(rt: HostRuntime) -> Result<(), Fail> {
+    let alloc = rt.alloc();
+    let state = KeyState::new(alloc)?;
+    let needs = state.needs(&KeyCmd::Create {
+        name: tank(alloc)?,
+        opts: Options::none(),
+    })?;
+    assert!(rt; !needs.seed && state.tree().rows().is_empty());
     let text = state.get_prop(1, Prop::KeyStatus)?;
-    assert_eq!(rt; text.as_bytes(), b"available".as_slice());
-    let command = KeyCmd::Load {
-        name,
-        check_only: true,
-        place: None,
-    };
-    let needs = state.needs(&command)?;
-    assert!(rt; !needs.seed && matches!(needs.new_place, Some(Location::Prompt)));
-    assert_eq!(rt; state.tree().rows().len(), 1);
+    assert_eq!(rt; text.as_bytes(), b"-".as_slice());
     commands_keep_soundness();
     Ok(())
 }

@@ -6,9 +6,9 @@ use Rattle.encryption_roots.specs.declared.command.KeyCmd.TheVariants as command
 use Rattle.encryption_roots.specs.ById.{at_id, with_id}
 use Rattle.key_machine.specs.Plain.{Plain, is_root, owned}
 use Rattle.key_machine.specs.Load.{told_load, told_load_of}
-use Rattle.key_machine.specs.Reply.{Stepped, Refused, refused}
+use Rattle.key_machine.specs.Reply.{Stepped, refused}
 use Rattle.key_machine.specs.Sound.{Sound}
-use Rattle.key_machine.specs.Step.{refusal_of, told, target}
+use Rattle.key_machine.specs.Step.{told}
 use Rattle.key_machine.specs.Told.{key_of}
 use Rattle.key_machine.proofs.LoadLaws.{none_wrong, with_key_sound}
 use Rattle.key_machine.proofs.SoundLemmas.{refused_by_material}
