@@ -1,5 +1,5 @@
 -- The stored records are those of the families that the datasets tell.
-use Rattle.std.proofs.Common.{◌≡◌, ◌≢◌, ⊎_elim, ℕ, zero, suc, ◌<◌, ◌≤◌, Bool, true, false, cond, ◌==◌, ◌&&◌, List, [], ◌∷◌, length, map, Option, Some, None, is_some, refl, ap, sym, ◌∙◌, subst, arith}
+use Rattle.std.proofs.Common.{◌≡◌, ◌≢◌, ⊎_elim, ℕ, zero, suc, ◌<◌, ◌≤◌, Bool, true, false, cond, ◌==◌, ◌&&◌, List, [], ◌∷◌, map, Option, Some, None, is_some, refl, ap, sym, ◌∙◌, subst, arith}
 use Rattle.std.proofs.lemmas.Bool.{cases_Bool, cases_eq, eq-eqb, ne_eqb}
 use Rattle.std.proofs.lemmas.Bool.Decides.{nat_tests}
 use Rattle.std.proofs.lemmas.List.Elements.{All-nil, All-cons, All-head, All-tail, recursion_from_All}
@@ -8,14 +8,14 @@ use Rattle.std.specs.List.{All, AllPairs, filter, list_any}
 use Rattle.dataset_tree.specs.declared.kinds.Kind.{Kind}
 use Rattle.dataset_tree.specs.declared.kinds.Kind.TheVariants.{Plain as PlainKind, Crypt}
 use Rattle.dataset_tree.specs.declared.tree.Row.{Row}
-use Rattle.dataset_tree.specs.Tree.{Datasets, IsTree, row_of}
+use Rattle.dataset_tree.specs.Tree.{row_of}
 use Rattle.encryption_roots.specs.declared.props.Props.{Props}
 use Rattle.encryption_roots.specs.ById.{IsRisingById, at_id}
 use Rattle.encryption_roots.specs.Owned.{ids_where, is_crypt, begins_family, is_owner, owned_families}
 use Rattle.encryption_roots.specs.Owners.{owner, family}
 use Rattle.encryption_roots.proofs.OwnedLemmas.{kept_have, kept_rise}
 use Rattle.encryption_roots.proofs.OwnerLemmas.{family_by_walking, family_of_clone, ids_fall}
-use Rattle.key_machine.specs.Plain.{Plain, Stored, owner_of, is_same, owned}
+use Rattle.key_machine.specs.Plain.{Plain, Stored, is_same, owned}
 use Rattle.key_machine.specs.Sound.{SoundTree, IsEncrypted}
 use Rattle.key_machine.proofs.RekeyRecords.{there_by_ids}
 use Rattle.key_machine.proofs.CreateLawsCases.{found_has}

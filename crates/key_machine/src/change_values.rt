@@ -6,13 +6,14 @@ ghost use Rattle.dataset_tree.specs.declared.kinds.Suite.TheVariants.{Aes128Gcm,
 ghost use Rattle.dataset_tree.specs.declared.refusal.Refusal.TheVariants.{NoSuch, KeyUnavailable, NotRoot, NotEncrypted, NoEncryptedParent, IsClone, WrongKey, KeyFileMissing, EntropyFault, BadIters, BadOptions};
 ghost use Rattle.encryption_roots.specs.Options.{no_options};
 ghost use Rattle.encryption_roots.specs.declared.props.Location.TheVariants.{Prompt, File};
+ghost use Rattle.encryption_roots.specs.declared.kit.Fetched.TheVariants.{Got, Missing, Fault};
 ghost use Rattle.encryption_roots.specs.declared.command.KeyCmd.TheVariants as commands;
 ghost use Rattle.key_machine.specs.Change.{changed_props, changed_salt, change_families};
 ghost use Rattle.key_machine.specs.Create.{seeded_record};
 ghost use Rattle.key_machine.specs.Inherit.{inherit_families, inherit_key};
 ghost use Rattle.key_machine.specs.Plain.{Ciphers, Stored};
 ghost use Rattle.key_machine.specs.Rekey.{sealed_anew, rewrapped};
-ghost use Rattle.key_machine.specs.Sample.{sample, unloaded, with_child_root, tank_key, child_key, raw, passphrase, hex_props, passphrase_props, seed_kit};
+ghost use Rattle.key_machine.specs.Sample.{sample, unloaded, with_child_root, tank_key, child_key, raw, passphrase, hex_props, passphrase_props, seed_kit, new_key_kit, faulty_kit, with_plain_keys};
 ghost use Rattle.key_machine.specs.Step.{refusal_of, material_refusal, wanted, told};
 ghost use Rattle.key_machine.specs.Told.{nothing_told, no_key};
 
@@ -122,6 +123,43 @@ pub fn records_of_new_keys()
         let one = sealed_anew c first.wrapped new (c.seed_bytes seed 36 12) (c.opens first.wrapped old) in
         let two = sealed_anew c second.wrapped new (c.seed_bytes seed 39 12) (c.opens second.wrapped old) in
         rewrapped c seed old new 0 ((4, first) ∷ (9, second) ∷ []) ≡ (4, one) ∷ (9, two) ∷ [] }
+{}
+
+/// What material tells, where material is its own key but for a passphrase's, which is told by its salt
+/// and iterations: records stand under the new key, from the old one, with the seed's vectors from the
+/// first on; the old key's fault comes before the new one's, and this before the seed's.
+pub fn what_new_keys_tell()
+    ensures change { (c : Ciphers) (seed : List ℕ) →
+        let facts = told (with_plain_keys c) sample (commands.Change (codes "tank/a") raw false)
+        (new_key_kit seed) in
+        (facts.key ≡ codes "new") × (facts.salt ≡ 0) × (facts.wrapped
+        ≡ (2, sealed_anew c (22 ∷ []) (codes "new") (c.seed_bytes seed 36 12) (c.opens (22 ∷ []) tank_key.1)) ∷ []) }
+    ensures passphrase { (c : Ciphers) (seed : List ℕ) →
+        let facts = told (with_plain_keys c) sample (commands.Change (codes "tank") passphrase false)
+        (new_key_kit seed) in
+        let salt = little_endian_value (c.seed_bytes seed 34 8) in
+        (facts.salt ≡ salt) × (facts.key ≡ salt ∷ 350000 ∷ []) }
+    ensures inherit { (c : Ciphers) (seed : List ℕ) →
+        let host = with_child_root (tank_key ∷ child_key ∷ []) in
+        let one = sealed_anew c (33 ∷ []) tank_key.1 (c.seed_bytes seed 36 12) (c.opens (33 ∷ []) child_key.1) in
+        told c host (commands.Inherit (codes "tank/b") false) (seed_kit seed)
+        ≡ record { fault = None; wrong = None; key = no_key; salt = 0; wrapped = (3, one) ∷ [] } }
+    ensures fetched { (c : Ciphers) (seed : List ℕ) →
+        let facts = told (with_plain_keys c) unloaded (commands.Change (codes "tank/a") raw true)
+        (new_key_kit seed) in
+        facts.wrapped
+        ≡ (2, sealed_anew c (22 ∷ []) (codes "new") (c.seed_bytes seed 36 12) (c.opens (22 ∷ []) (codes "old"))) ∷ [] }
+    ensures old_first { (c : Ciphers) →
+        let kit = faulty_kit Missing Fault in
+        (told c unloaded (commands.Change (codes "tank/a") raw true) kit).fault ≡ Some KeyFileMissing }
+    ensures new_next { (c : Ciphers) →
+        let kit = faulty_kit (Got (codes "old")) Missing in
+        let command = commands.Change (codes "tank/a") raw true in
+        (told (with_plain_keys c) unloaded command kit).fault ≡ Some KeyFileMissing }
+    ensures seed_last { (c : Ciphers) →
+        let kit = faulty_kit (Got (codes "old")) (Got (codes "new")) in
+        let command = commands.Change (codes "tank/a") raw true in
+        (told (with_plain_keys c) unloaded command kit).fault ≡ Some EntropyFault }
 {}
 
 /// A dataset that is made below an encrypted one without a key format inherits its key, which has to

@@ -20,7 +20,7 @@ pub use change_laws::{
 };
 pub use change_values::{
     changes_are_refused_in_order, defaults_of_a_change, heirs_are_created,
-    inherits_are_refused_in_order, places_of_new_keys, records_of_new_keys,
+    inherits_are_refused_in_order, places_of_new_keys, records_of_new_keys, what_new_keys_tell,
 };
 pub use create_laws::a_new_root_has_its_key;
 pub use key_laws::{
