@@ -424,9 +424,11 @@ kit_stopped_third n wants a b c d sa sb sc old_key new_key stop p q r = record {
       let new = gave_of n NewKey new_key wants.new_place b.files sb sc q.made entries files old.0 (p.takes.files ∙ f) old.1 (all_second (λ taking. has_entry taking.entry entries ≡ taking.fails) p.made q.made agrees_keys) q.said in
       let last : List Taking = fill_at (seed_at (spot_of n entries) left) wants.seed in
       subst (λ (g : Given Fetched). IsFront ((p.made ++ q.made) ++ r.made) (supply_takings (with_old (spot_of n entries) files left wants g))) (sym old.2)
-      (subst (λ (g : Given Fetched). IsFront ((p.made ++ q.made) ++ r.made) (supply_takings (with_new (spot_of n entries) left wants old_key g))) (sym new.2)
-      (last, ap (λ xs. (xs ++ fetch_at (taking_at (spot_of n entries) NewKey) wants.new_place) ++ last) (sym old.3) ∙ ap (λ xs. (p.made ++ xs) ++ last) (sym new.3)
-      ∙ ap (λ xs. xs ++ last) (sym (append-nil (p.made ++ q.made)) ∙ ap (λ xs. (p.made ++ q.made) ++ xs) (sym r.said)))));
+      (subst (λ (g : Given Fetched). IsFront ((p.made ++ q.made) ++ r.made) (supply_takings (with_new (spot_of n entries) left wants old_key g))) (sym new.2) (
+        last,
+        ap (λ xs. (xs ++ fetch_at (taking_at (spot_of n entries) NewKey) wants.new_place) ++ last) (sym old.3) ∙ ap (λ xs. (p.made ++ xs) ++ last) (sym new.3)
+            ∙ ap (λ xs. xs ++ last) (sym (append-nil (p.made ++ q.made)) ∙ ap (λ xs. (p.made ++ q.made) ++ xs) (sym r.said)),
+      )));
 }
 
 -- all three were made

@@ -133,12 +133,7 @@ fn run_command<W: Outside>(
 }
 
 /// Adds why there is no command.
-fn push_stop(
-    output: &mut Vec<u8>,
-    number: u32,
-    keys: &KeyState,
-    stop: Stop,
-) -> Result<(), Halt>
+fn push_stop(output: &mut Vec<u8>, number: u32, keys: &KeyState, stop: Stop) -> Result<(), Halt>
     ensures text { OnOk result (ShowsStop number keys.now.tree.rows stop output.old.items output.new.items) }
     ensures stops { OnErr result (result ≡ Err Halt.NoMemory) }
 {

@@ -50,12 +50,7 @@ pub(crate) trait Outside {
         ensures holds { holds self.new ≡ holds self.old };
 
     /// Fetches the key material at a place, as this taking: from a file, or from the next line of the script.
-    fn fetch(
-        &mut self,
-        alloc: Global,
-        place: &Location,
-        entry: FoundEntry,
-    ) -> Result<Fetched, Halt>
+    fn fetch(&mut self, alloc: Global, place: &Location, entry: FoundEntry) -> Result<Fetched, Halt>
         requires { is_fetch entry.what ≡ true }
         ensures takes { Acts entry.line (told self.old) (told self.new) (Fetches result entry (Some place.now) (told self.old).files (script self.old) (script self.new)) }
         ensures reads { Reads (result_err result) (script self.old) (script self.new) (faults self.old) (faults self.new) }

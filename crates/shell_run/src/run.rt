@@ -138,7 +138,16 @@ fn run_words<S: Source, O: Sink, F: KeyFiles, E: Entropy>(
 {
     match start(alloc, words) {
         Ok((mut reader, mut keys)) => {
-            run_script(alloc, &mut reader, &mut keys, script, out, files, entropy, found)
+            run_script(
+                alloc,
+                &mut reader,
+                &mut keys,
+                script,
+                out,
+                files,
+                entropy,
+                found,
+            )
         }
         Err(ending) => ending,
     }

@@ -81,5 +81,9 @@ pub(crate) fn take_prompt<S: Source>(
 fn place_of_long(number: u32) -> u32
     ensures { (line : List ℕ) → MAX_LINE < length line → Some result ≡ within_limits number line Some None }
 {
-    if number > MAX_LINES { 0 } else { MAX_LINE as u32 }
+    if number > MAX_LINES {
+        0
+    } else {
+        MAX_LINE as u32
+    }
 }
