@@ -5,8 +5,8 @@ use Rattle.std.proofs.lemmas.List.{get_or-append_right, get_or-take, get_or_appe
 use Rattle.std.proofs.lemmas.List.FromFn.{fill_by_all, get_or-map-range_with_len}
 use Rattle.std.specs.Int.{rotate_left}
 use Rattle.std.specs.Int.Bits.{xor_lt}
-use Rattle.aes_block.specs.Field.{◌⊕◌, inverse}
-use Rattle.aes_block.proofs.FieldLaws.{power-lt}
+use Rattle.aes_block.specs.Field.{◌⊕◌, ◌•◌, inverse}
+use Rattle.aes_block.proofs.FieldLaws.{power-lt, product-lt}
 use Rattle.aes_block.specs.Cipher.{IsKeySize, add_round_key, add_words, aes, affine, at, byte_of_word, cipher, key_expansion, key_words, mix_columns, next_word, rcon, rot_word, round_count, sbox, shift_rows, state_after, state_of, sub_bytes, sub_word, temp, word, word_of, words_after}
 use Rattle.aes_block.proofs.Checked.{agree_below, same_from_checked}
 
@@ -162,11 +162,31 @@ shift_rows-bytes : (s : List ℕ) → AreBytes s → AreBytes (shift_rows s)
 unfolding shift_rows
 shift_rows-bytes s bytes = state_of-bytes (λ r c. at s r ((c + r) % 4)) (λ r c. bytes (r + 4 * ((c + r) % 4)))
 
+mix_columns-bytes : (s : List ℕ) → AreBytes s → AreBytes (mix_columns s)
+unfolding mix_columns
+mix_columns-bytes s bytes =
+    state_of-bytes
+    (λ r c. 0x02 • at s r c ⊕ 0x03 • at s ((r + 1) % 4) c ⊕ at s ((r + 2) % 4) c ⊕ at s ((r + 3) % 4) c)
+    (λ r c.
+    let own = product-lt 2 (at s r c) (bytes (r + 4 * c)) in
+    let next = product-lt 3 (at s ((r + 1) % 4) c) (bytes ((r + 1) % 4 + 4 * c)) in
+    let near = xor_lt 8 (2 • at s r c) (3 • at s ((r + 1) % 4) c) own next in
+    let three = xor_lt 8 (2 • at s r c ⊕ 3 • at s ((r + 1) % 4) c) (at s ((r + 2) % 4) c) near (bytes ((r + 2) % 4 + 4 * c)) in
+    xor_lt 8 (2 • at s r c ⊕ 3 • at s ((r + 1) % 4) c ⊕ at s ((r + 2) % 4) c) (at s ((r + 3) % 4) c) three (bytes ((r + 3) % 4 + 4 * c)))
+
 add_round_key-bytes : (s w : List ℕ) (round : ℕ) → AreBytes s → AreBytes w → AreBytes (add_round_key s w round)
 unfolding add_round_key
 add_round_key-bytes s w round s-bytes w-bytes =
     state_of-bytes (λ r c. at s r c ⊕ byte_of_word w (4 * round + c) r)
     (λ r c. xor_lt 8 (at s r c) (byte_of_word w (4 * round + c) r) (s-bytes (r + 4 * c)) (w-bytes (4 * (4 * round + c) + r)))
+
+pub state_after-bytes : (w input : List ℕ) (n : ℕ) → AreBytes w → AreBytes input → AreBytes (state_after w input n)
+unfolding state_after
+state_after-bytes w input zero w-bytes bytes = add_round_key-bytes input w 0 bytes w-bytes
+state_after-bytes w input (suc n) w-bytes bytes =
+    add_round_key-bytes (mix_columns (shift_rows (sub_bytes (state_after w input n)))) w (suc n)
+    (mix_columns-bytes (shift_rows (sub_bytes (state_after w input n)))
+    (shift_rows-bytes (sub_bytes (state_after w input n)) (sub_bytes-bytes (state_after w input n)))) w-bytes
 
 -- a key of bytes gives blocks of bytes
 pub aes-bytes : (key block : List ℕ) → AreBytes key → AreBytes (aes key block)

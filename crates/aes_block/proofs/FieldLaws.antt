@@ -16,7 +16,7 @@ sum_swap a b c d =
     ∙ sym (xor_assoc a c (b ⊕ d))
 
 -- a bit times a sum
-bit-mul_sum : (x c d : ℕ) → x < 2 → x * (c ⊕ d) ≡ x * c ⊕ x * d
+pub bit-mul_sum : (x c d : ℕ) → x < 2 → x * (c ⊕ d) ≡ x * c ⊕ x * d
 bit-mul_sum zero c d h = rw (zero-mul (c ⊕ d), zero-mul c, zero-mul d) refl
 bit-mul_sum (suc zero) c d h = rw (one-mul (c ⊕ d), one-mul c, one-mul d) refl
 bit-mul_sum (suc (suc x)) c d h = absurd (omega arith)
@@ -27,7 +27,7 @@ bit-mul-lt (suc zero) c hx hc = rw (one-mul c) hc
 bit-mul-lt (suc (suc x)) c hx hc = absurd (omega arith)
 
 -- a sum of bits times a byte
-sum-mul : (x y d : ℕ) → x < 2 → y < 2 → (x ⊕ y) * d ≡ x * d ⊕ y * d
+pub sum-mul : (x y d : ℕ) → x < 2 → y < 2 → (x ⊕ y) * d ≡ x * d ⊕ y * d
 sum-mul zero y d hx hy = rw (zero-mul d) refl
 sum-mul (suc zero) zero d hx hy = rw (zero-mul d, xor_zero_r (1 * d)) refl
 sum-mul (suc zero) (suc zero) d hx hy = rw (xor_self (1 * d), zero-mul d) refl
@@ -35,10 +35,10 @@ sum-mul (suc zero) (suc (suc y)) d hx hy = absurd (omega arith)
 sum-mul (suc (suc x)) y d hx hy = absurd (omega arith)
 
 -- the lowest bit of a sum, and the bits above it
-sum-mod_two : (a b : ℕ) → (a ⊕ b) % 2 ≡ (a % 2) ⊕ (b % 2)
+pub sum-mod_two : (a b : ℕ) → (a ⊕ b) % 2 ≡ (a % 2) ⊕ (b % 2)
 sum-mod_two a b = xor_mod a b 1
 
-sum-half : (a b : ℕ) → (a ⊕ b) / 2 ≡ (a / 2) ⊕ (b / 2)
+pub sum-half : (a b : ℕ) → (a ⊕ b) / 2 ≡ (a / 2) ⊕ (b / 2)
 sum-half a b = xor_shr a b 1
 
 twice-sum : (a b : ℕ) → 2 * (a ⊕ b) ≡ (2 * a) ⊕ (2 * b)
@@ -49,7 +49,7 @@ twice-sum a b =
     let whole : (a ⊕ b) * 2 + 0 ≡ 2 * (a ⊕ b) = omega arith in
     sym whole ∙ sym shifted ∙ ap (λ (x : ℕ). x ⊕ (b * 2 + 0)) left ∙ ap (λ (x : ℕ). (2 * a) ⊕ x) right
 
-bit_at-sum : (a b i : ℕ) → bit_at (a ⊕ b) i ≡ (bit_at a i) ⊕ (bit_at b i)
+pub bit_at-sum : (a b i : ℕ) → bit_at (a ⊕ b) i ≡ (bit_at a i) ⊕ (bit_at b i)
 bit_at-sum a b i = ap (λ (x : ℕ). x % 2) (xor_shr a b i) ∙ xor_mod (a / 2 ^ i) (b / 2 ^ i) 1
 
 -- ---- XTIMES
@@ -251,19 +251,19 @@ power_of_product b m n {y = y} r-is x-is y-is =
 -- ---- inverses
 
 -- the power 254 by few products, from the powers 2, 3 and 12
-square : ℕ → ℕ
+unfoldable pub square : ℕ → ℕ
 square b = b • b
 
-from_three_powers : ℕ → ℕ → ℕ → ℕ
+unfoldable pub from_three_powers : ℕ → ℕ → ℕ → ℕ
 from_three_powers p2 p3 p12 = p2 • (p12 • square (square (square (square (p3 • p12)))))
 
-from_two_powers : ℕ → ℕ → ℕ
+unfoldable pub from_two_powers : ℕ → ℕ → ℕ
 from_two_powers p2 p3 = from_three_powers p2 p3 (square (square p3))
 
-from_square : ℕ → ℕ → ℕ
+unfoldable pub from_square : ℕ → ℕ → ℕ
 from_square b p2 = from_two_powers p2 (b • p2)
 
-inverse-short : (b : ℕ) → b < 256 → inverse b ≡ from_square b (square b)
+pub inverse-short : (b : ℕ) → b < 256 → inverse b ≡ from_square b (square b)
 unfolding inverse square from_three_powers from_two_powers from_square
 inverse-short b h =
     let p1 = sym (power-one b h) in

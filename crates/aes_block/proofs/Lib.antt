@@ -2,4 +2,7 @@ pub mod Checked
 pub mod FieldLaws
 pub mod CipherLaws
 pub mod ScheduleLaws
+pub mod LaneLaws
+pub mod TowerLaws
+pub mod TableLaws
 mod Examples

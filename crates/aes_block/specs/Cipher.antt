@@ -121,3 +121,9 @@ IsKeySize nk = (nk ≡ 4) ⊎ (nk ≡ 6) ⊎ (nk ≡ 8)
 -- AES of a key of 16, 24 or 32 bytes and a block of 16 (5, 6)
 unfoldable pub aes : List ℕ → List ℕ → List ℕ
 aes key block = cipher block (round_count (key_words key)) (key_expansion key)
+
+-- the block of the example vectors, 00112233..ff (Appendix C)
+abbrev pub example_block : List ℕ
+example_block =
+    0x00 ∷ 0x11 ∷ 0x22 ∷ 0x33 ∷ 0x44 ∷ 0x55 ∷ 0x66 ∷ 0x77
+    ∷ 0x88 ∷ 0x99 ∷ 0xaa ∷ 0xbb ∷ 0xcc ∷ 0xdd ∷ 0xee ∷ 0xff ∷ []

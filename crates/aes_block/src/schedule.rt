@@ -5,7 +5,7 @@ ghost use Rattle.aes_block.specs.Field.{power};
 ghost use Rattle.aes_block.specs.Cipher.{add_words, next_word, rot_word, sub_word, temp, word};
 
 use crate::SCHEDULE_LEN;
-use crate::field::sbox;
+use crate::field::sbox_by_table;
 
 // ROTWORD (5.2).
 fn rot_word(a: [u8; 4]) -> [u8; 4]
@@ -18,7 +18,12 @@ fn rot_word(a: [u8; 4]) -> [u8; 4]
 fn sub_word(a: [u8; 4]) -> [u8; 4]
     ensures { result ≡ sub_word a }
 {
-    [sbox(a[0]), sbox(a[1]), sbox(a[2]), sbox(a[3])]
+    [
+        sbox_by_table(a[0]),
+        sbox_by_table(a[1]),
+        sbox_by_table(a[2]),
+        sbox_by_table(a[3]),
+    ]
 }
 
 fn add_words(a: [u8; 4], b: [u8; 4]) -> [u8; 4]

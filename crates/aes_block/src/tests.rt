@@ -46,3 +46,32 @@ fn aes_256_encrypts_the_example(rt: HostRuntime) -> Result<(), Fail> {
     assert_eq!(rt; block, expected);
     Ok(())
 }
+
+#[test]
+fn eight_blocks_are_as_by_steps(rt: HostRuntime) -> Result<(), Fail> {
+    let cipher = Aes::<6>::expand(&KEY[..24]);
+    let mut blocks = [0; 128];
+    for i in 0..8 {
+        blocks[16 * i] = 7;
+        blocks[16 * i + 15] = 1 << i;
+    }
+    cipher.encrypt_blocks(&mut blocks);
+    for i in 0..8 {
+        let mut block = [0; 16];
+        block[0] = 7;
+        block[15] = 1 << i;
+        cipher.encrypt_by_steps(&mut block);
+        assert_eq!(rt; &blocks[16 * i..16 * i + 16], block.as_slice());
+    }
+    Ok(())
+}
+
+#[test]
+fn look_ups_are_counted(rt: HostRuntime) -> Result<(), Fail> {
+    let mut looks = 5;
+    let mut block = BLOCK;
+    Aes::<4>::expand(&KEY[..16]).encrypt_counted(&mut block, &mut looks);
+    assert_eq!(rt; block[0], 0x69);
+    assert_eq!(rt; looks, 165);
+    Ok(())
+}

@@ -1,3 +1,4 @@
 pub mod LinesLemmas
 pub mod ReaderLemmas
+pub mod PromptLemmas
 pub mod KeyFilesLemmas

@@ -127,7 +127,7 @@ told_before before now (Some old) None P kept holds = absurd kept
 told_before before now (Some old) (Some more) P kept holds = subst P kept (holds old more refl refl)
 
 -- what holds of a line's bytes, where they are known
-of_items : {V : Type 0} (items : V → List ℕ) (P : List ℕ → Type 0) (bytes : List ℕ) (line : Option V) → option_map items line ≡ Some bytes → P bytes
+pub of_items : {V : Type 0} (items : V → List ℕ) (P : List ℕ → Type 0) (bytes : List ℕ) (line : Option V) → option_map items line ≡ Some bytes → P bytes
     → IfSome line (λ v. P (items v))
 of_items items P bytes None is holds = tt
 of_items items P bytes (Some v) is holds =

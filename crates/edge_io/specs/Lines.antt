@@ -1,6 +1,8 @@
 -- Lines of a text. A line ends before a line feed, before a carriage return that a line feed follows, or where the text ends.
-use Rattle.std.specs.Prelude.{ℕ, Bool, true, false, ◌||◌, ◌&&◌, List, [], ◌∷◌, None, Some, ◌==◌, if◌then◌else◌}
+use Rattle.std.specs.Prelude.{ℕ, Bool, true, false, ◌||◌, ◌&&◌, List, [], ◌∷◌, None, Some, drop, eqb, ◌==◌, if◌then◌else◌}
+use Rattle.std.specs.List.{starts_with}
 use Rattle.std.specs.declared.option.Option.{Option}
+use lib.Chars.{codes}
 
 abbrev pub line_feed : ℕ
 line_feed = 10
@@ -31,6 +33,22 @@ rest_of (byte ∷ bytes) = if byte == line_feed then bytes else rest_of bytes
 abbrev pub next_line : List ℕ → Option (List ℕ)
 next_line [] = None
 next_line (byte ∷ bytes) = Some (first_line (byte ∷ bytes))
+
+-- whether a line begins with `<`, as one that answers a prompt does
+abbrev pub is_prompt : List ℕ → Bool
+is_prompt line = starts_with eqb line (codes "<")
+
+-- what a line that answers a prompt has behind `<`
+abbrev pub prompt_of : List ℕ → Option (List ℕ)
+prompt_of line = if is_prompt line then Some (drop 1 line) else None
+
+-- that of the first line, where it answers a prompt
+abbrev pub next_prompt : List ℕ → Option (List ℕ)
+next_prompt bytes = prompt_of (first_line bytes)
+
+-- the bytes after the first line where it answers a prompt, else all
+abbrev pub rest_of_prompt : List ℕ → List ℕ
+rest_of_prompt bytes = if is_prompt (first_line bytes) then rest_of bytes else bytes
 
 -- the first of these lines with one more byte in front
 abbrev pub onto_line : ℕ → List (List ℕ) → List (List ℕ)

@@ -1,10 +1,10 @@
 // The lines of a source.
-ghost use Rattle.std.specs.Prelude.{◌≡◌, ◌≢◌, ◌+◌, ◌<◌, ◌≤◌, ℕ, [], List, None, Some, ⊤, length, take, drop, IfNone, IfOk, IfSome, OnErr, OnOk, IsErrOf, Ok, All, vec_len, vec_capacity};
+ghost use Rattle.std.specs.Prelude.{◌≡◌, ◌≢◌, ◌+◌, ◌<◌, ◌≤◌, ℕ, true, false, [], List, None, Some, ⊤, length, take, drop, IfNone, IfOk, IfSome, OnErr, OnOk, IsErrOf, Ok, All, vec_len, vec_capacity};
 ghost use Rattle.std.specs.Option.{option_map};
 ghost use Rattle.std.specs.Io.{StartsWith};
 ghost use Rattle.std.specs.Io.KnownBytes.{IsAtEnd, Keeps};
 ghost use Rattle.edge_io.specs.Faults.{HasCause, Rose};
-ghost use Rattle.edge_io.specs.Lines.{first_line, line_feed, next_line, rest_of};
+ghost use Rattle.edge_io.specs.Lines.{first_line, is_prompt, line_feed, next_line, next_prompt, rest_of, rest_of_prompt};
 ghost use Rattle.edge_io.specs.LineEnds.{HasNoFeed, IsFirstFeed, EndsAt, strip_return};
 ghost use Rattle.edge_io.specs.Told.{StillTold, unread};
 
@@ -99,14 +99,65 @@ impl LineReader {
         match self.find_end(src)? {
             LineEnd::Feed(at) => {
                 let len = without_return(&self.pending()[..at]).len();
-                self.give(len, at + 1)
+                self.give(0, len, at + 1)
             }
             LineEnd::Input => {
                 let len = self.pending().len();
                 if len == 0 {
                     return Ok(None);
                 }
-                self.give(len, len)
+                self.give(0, len, len)
+            }
+            LineEnd::TooFar => Err(LineError::Long),
+        }
+    }
+
+    /// Takes the next line where it begins with `<`, and gives the bytes behind that byte. `None`
+    /// where no such line is next: then nothing is taken.
+    pub fn next_prompt<S: Source>(&mut self, src: &mut S) -> Result<Option<Vec<u8>>, LineError>
+        // Where the source tells its bytes, they decide.
+        ensures line { IfOk result (λ material. IfSome (unread self.old (S.left src.old))
+            (λ bytes. option_map (λ material. material.items) material ≡ next_prompt bytes)) }
+        ensures rest { OnOk result (IfSome (unread self.old (S.left src.old))
+            (λ bytes. unread self.new (S.left src.new) ≡ Some (rest_of_prompt bytes))) }
+        ensures long { IsErrOf result LineError.Long → IfSome (unread self.old (S.left src.old))
+            (λ bytes. (is_prompt (first_line bytes) ≡ true)
+            × (MAX_LINE < length (first_line bytes))) }
+
+        // Of any source.
+        ensures short { IfOk result (λ material. IfSome material
+            (λ material. length material.items + 1 ≤ MAX_LINE)) }
+        ensures one_line { IfOk result (λ material. IfSome material
+            (λ material. All (λ byte. byte ≢ line_feed) material.items)) }
+        ensures held_long { IsErrOf result LineError.Long →
+            (is_prompt (first_line self.new) ≡ true) × (MAX_LINE < length (first_line self.new)) }
+        ensures held_none { IfOk result (λ material. IfNone material (is_prompt self.new ≡ false)) }
+
+        // Where no line is taken no byte is lost.
+        ensures untaken { IfOk result (λ material. IfNone material (StartsWith self.new self.old)) }
+        ensures kept { OnErr result (StartsWith self.new self.old) }
+        ensures told { OnErr result
+            (StillTold (unread self.old (S.left src.old)) (unread self.new (S.left src.new))) }
+
+        // The source's faults, as for `next`.
+        ensures later { S.faults src.old ≤ S.faults src.new }
+        ensures failed { IsErrOf result LineError.Failed →
+            Rose (S.faults src.old) (S.faults src.new) }
+        ensures no_fault { (IsErrOf result LineError.Failed → ⊥) →
+            S.faults src.new ≡ S.faults src.old }
+    {
+        self.hold_some(src)?;
+        if !self.pending().starts_with(b"<") {
+            return Ok(None);
+        }
+        match self.find_end(src)? {
+            LineEnd::Feed(at) => {
+                let len = without_return(&self.pending()[..at]).len();
+                self.give(1, len, at + 1)
+            }
+            LineEnd::Input => {
+                let len = self.pending().len();
+                self.give(1, len, len)
             }
             LineEnd::TooFar => Err(LineError::Long),
         }
@@ -117,6 +168,23 @@ impl LineReader {
         ensures { result.now ≡ self.now }
     {
         &self.held[self.start..]
+    }
+
+    // Reads a block where nothing is held.
+    fn hold_some<S: Source>(&mut self, src: &mut S) -> Result<(), Failed>
+        ensures end { OnOk result (length self.new ≡ 0 →
+            IfSome (S.left src.old) (λ _. IsAtEnd (S.left src.new))) }
+        ensures unread { OnOk result
+            (Keeps (unread self.old (S.left src.old)) (unread self.new (S.left src.new))) }
+        ensures told { OnErr result
+            (StillTold (unread self.old (S.left src.old)) (unread self.new (S.left src.new))) }
+        ensures kept { StartsWith self.new self.old }
+        ensures cause { HasCause (S.faults src.old) (S.faults src.new) result }
+    {
+        if self.pending().is_empty() {
+            self.fill(src)?;
+        }
+        Ok(())
     }
 
     // Reads until the end of the next line is held, or more bytes than a line has.
@@ -160,13 +228,22 @@ impl LineReader {
         Ok(count)
     }
 
-    // Gives the first `len` bytes as a line, and lets go of the first `taken`.
-    fn give(&mut self, len: usize, taken: usize) -> Result<Option<Vec<u8>>, LineError>
+    // Gives the first `len` bytes, a whole line, without the `skipped` ones in front, and lets go
+    // of the first `taken`.
+    fn give(
+        &mut self,
+        skipped: usize,
+        len: usize,
+        taken: usize,
+    ) -> Result<Option<Vec<u8>>, LineError>
+        requires in_len { skipped ≤ len }
         requires in_taken { len ≤ taken }
         requires in_pending { taken ≤ length self.old }
-        ensures line { IfOk result (λ line. option_map (λ line. line.items) line ≡ Some (take len self.old)) }
+        ensures line { IfOk result (λ line. option_map (λ line. line.items) line
+            ≡ Some (drop skipped (take len self.old))) }
         ensures rest { OnOk result (self.new ≡ drop taken self.old) }
-        ensures short { IfOk result (λ line. IfSome line (λ line. length line.items ≤ MAX_LINE)) }
+        ensures short { IfOk result (λ line. IfSome line
+            (λ line. length line.items + skipped ≤ MAX_LINE)) }
         ensures long { IsErrOf result LineError.Long → MAX_LINE < len }
         ensures not_failed { IsErrOf result LineError.Failed → ⊥ }
         ensures err { OnErr result (self.new ≡ self.old) }
@@ -174,7 +251,7 @@ impl LineReader {
         if len > MAX_LINE {
             return Err(LineError::Long);
         }
-        let line = self.pending()[..len].to_vec(self.alloc)?;
+        let line = self.pending()[..len][skipped..].to_vec(self.alloc)?;
         self.start += taken;
         Ok(Some(line))
     }

@@ -88,13 +88,34 @@ fn a_line_has_at_most_65536_bytes(rt: HostRuntime) -> Result<(), Fail> {
     Ok(())
 }
 
+// Material where the line begins with `<`; nothing is taken before a space, a word or the end.
 #[test]
-fn a_fault_in_a_line_loses_nothing(rt: HostRuntime) -> Result<(), Fail> {
+fn a_prompt_takes_only_a_line_with_a_mark(rt: HostRuntime) -> Result<(), Fail> {
     let alloc = rt.alloc();
-    let mut source = MemSource::new(vec![in alloc; b'a'; 10000]?, vec![in alloc; 1]?);
+    let text = Vec::from_slice(alloc, b" <a\n<b\r\n<\nplain\n<<end")?;
+    let mut source = MemSource::new(text, Vec::new(alloc));
     let mut reader = LineReader::new(alloc)?;
-    assert!(rt; reader.next(&mut source) == Err(LineError::Failed));
-    assert_eq!(rt; bytes_of(reader.next(&mut source))?.len(), 10000);
+    assert!(rt; reader.next_prompt(&mut source)?.is_none());
+    assert_eq!(rt;
+        bytes_of(reader.next(&mut source))?.as_slice(),
+        b" <a".as_slice()
+    );
+    for material in [b"b".as_slice(), b""] {
+        assert_eq!(rt;
+            bytes_of(reader.next_prompt(&mut source))?.as_slice(),
+            material
+        );
+    }
+    assert!(rt; reader.next_prompt(&mut source)?.is_none());
+    assert_eq!(rt;
+        bytes_of(reader.next(&mut source))?.as_slice(),
+        b"plain".as_slice()
+    );
+    assert_eq!(rt;
+        bytes_of(reader.next_prompt(&mut source))?.as_slice(),
+        b"<end".as_slice()
+    );
+    assert!(rt; reader.next_prompt(&mut source)?.is_none());
     Ok(())
 }
 

@@ -6,7 +6,7 @@ use Rattle.std.specs.Int.{w32, div_ceil, from_be_bytes, to_be_bytes}
 use Rattle.aes_block.specs.Cipher.{aes}
 use Rattle.aes_block.proofs.CipherLaws.{length-aes}
 use Rattle.gcm_seal.specs.Gcm.{block_at, inc32, counter_block, xor_bytes, gctr_blocks, gctr}
-use Rattle.gcm_seal.proofs.Blocks.{length-xor_bytes, length-block_at, block_from_part}
+use Rattle.gcm_seal.proofs.Blocks.{length-xor_bytes, length-block_at, group_from_part, xor_bytes_block_more}
 use borrow.Rule.Slice.PartMut.{put_mid, post_of}
 
 -- inc32 in place, on a block whose last four bytes are read as n
@@ -51,38 +51,83 @@ pub length-gctr : (key icb x : List ℕ) → length (gctr key icb x) ≡ length 
 unfolding gctr
 length-gctr key icb x = omega (arith, length-gctr_blocks key icb x (div_ceil (length x) 16))
 
-pub gctr_none : (key icb x : List ℕ) → x ≡ gctr_blocks key icb x 0 ++ drop (16 * 0) x
+pub gctr_none : (key icb x : List ℕ) → x ≡ gctr_blocks key icb x (8 * 0) ++ drop (128 * 0) x
 unfolding gctr_blocks
 gctr_none key icb x = refl
 
--- behind block i, which ends at `at`, stands block i + 1
-drop_to_next : (x : List ℕ) (i at : ℕ) → at ≡ min (length x) (16 * i + 16) → drop at x ≡ drop (16 * (i + 1)) x
-drop_to_next x i at e = elim (cases_lt (length x) (16 * i + 16)) [
-  | inl short ↦ drop_all at x (omega arith) ∙ sym (drop_all (16 * (i + 1)) x (omega arith))
-  | inr long ↦ let same : at ≡ 16 * (i + 1) = omega arith in ap (λ (n : ℕ). drop n x) same
+pub counter_block-add : (icb : List ℕ) (a b : ℕ) → counter_block (counter_block icb a) b ≡ counter_block icb (a + b)
+unfolding counter_block
+counter_block-add icb a zero = let none : a ≡ a + 0 = omega arith in ap (counter_block icb) none
+counter_block-add icb a (suc b) =
+    let next : a + suc b ≡ suc (a + b) = omega arith in
+    ap inc32 (counter_block-add icb a b) ∙ ap (counter_block icb) (sym next)
+
+-- m blocks more, by a key stream of m blocks at least
+gctr_blocks-add : (key icb x ks : List ℕ) (n m : ℕ) → ((j : ℕ) → j < m → block_at ks j ≡ aes key (counter_block icb (n + j)))
+    → gctr_blocks key icb x (n + m) ≡ gctr_blocks key icb x n ++ xor_bytes (take (16 * m) (drop (16 * n) x)) ks
+unfolding gctr_blocks
+gctr_blocks-add key icb x ks n zero each =
+    let none : n + 0 ≡ n = omega arith in
+    ap (gctr_blocks key icb x) none ∙ sym (append-nil (gctr_blocks key icb x n))
+gctr_blocks-add key icb x ks n (suc m) each =
+    let next : n + suc m ≡ suc (n + m) = omega arith in
+    let rest = drop (16 * n) x in
+    let place : 16 * (n + m) ≡ 16 * n + 16 * m = omega arith in
+    let bytes : 16 * suc m ≡ 16 * m + 16 = omega arith in
+    let block : block_at x (n + m) ≡ block_at rest m =
+    ap (λ (k : ℕ). take 16 (drop k x)) place ∙ ap (take 16) (sym (drop-drop (16 * m) (16 * n) x)) in
+    let done = gctr_blocks key icb x n in
+    ap (gctr_blocks key icb x) next
+    ∙ ap (λ (r : List ℕ). r ++ xor_bytes (block_at x (n + m)) (aes key (counter_block icb (n + m)))) (gctr_blocks-add key icb x ks n m (λ j h. each j (omega arith)))
+    ∙ append_assoc done (xor_bytes (take (16 * m) rest) ks) (xor_bytes (block_at x (n + m)) (aes key (counter_block icb (n + m))))
+    ∙ ap (λ (r : List ℕ). done ++ r)
+    (ap (λ (r : List ℕ). xor_bytes (take (16 * m) rest) ks ++ r) (rw (block, ← each m (omega arith)) refl)
+    ∙ sym (xor_bytes_block_more rest ks m) ∙ ap (λ (k : ℕ). xor_bytes (take k rest) ks) (sym bytes))
+
+-- behind group i, which ends at `at`, stands group i + 1
+drop_to_next : (x : List ℕ) (i at : ℕ) → at ≡ min (length x) (128 * i + 128) → drop at x ≡ drop (128 * (i + 1)) x
+drop_to_next x i at e = elim (cases_lt (length x) (128 * i + 128)) [
+  | inl short ↦ drop_all at x (omega arith) ∙ sym (drop_all (128 * (i + 1)) x (omega arith))
+  | inr long ↦ let same : at ≡ 128 * (i + 1) = omega arith in ap (λ (n : ℕ). drop n x) same
 ]
 
--- one block more, in place
-pub gctr_more : (key icb x text part : List ℕ) (i k : ℕ) → i < div_ceil (length x) 16
-    → text ≡ gctr_blocks key icb x i ++ drop (16 * i) x → k ≡ min (length text) (16 * i + 16) - 16 * i
-    → part ≡ xor_bytes (take k (drop (16 * i) text)) (aes key (counter_block icb i))
-    → put_mid (16 * i) k text part ≡ gctr_blocks key icb x (i + 1) ++ drop (16 * (i + 1)) x
-unfolding gctr_blocks
-gctr_more key icb x text part i k within e ek ep =
-    let done : List ℕ = gctr_blocks key icb x i in
-    let len : length done ≡ 16 * i = length-gctr_blocks key icb x i ∙ omega arith in
-    let total : length text ≡ length x = ap length e ∙ length-append done (drop (16 * i) x) ∙ omega (arith, length-drop (16 * i) x) in
-    let front : take (16 * i) text ≡ done = ap (take (16 * i)) e ∙ take_at done (drop (16 * i) x) (16 * i) len in
-    let back : drop (16 * i) text ≡ drop (16 * i) x = ap (drop (16 * i)) e ∙ drop_at done (drop (16 * i) x) (16 * i) len in
-    let size : k ≡ min (length x) (16 * i + 16) - 16 * i = ek ∙ ap (λ (n : ℕ). min n (16 * i + 16) - 16 * i) total in
-    let block : take k (drop (16 * i) text) ≡ block_at x i = rw (back, size) (block_from_part x i) in
-    let rest : drop k (drop (16 * i) text) ≡ drop (16 * (i + 1)) x =
-    ap (drop k) back ∙ drop-drop k (16 * i) x ∙ drop_to_next x i (16 * i + k) (omega arith) in
-    rw (front, rest, ep, block, add-one, append_assoc) refl
+-- one group more, in place
+pub gctr_more : (key icb x text part ks : List ℕ) (i k : ℕ) → i < div_ceil (length x) 128
+    → text ≡ gctr_blocks key icb x (8 * i) ++ drop (128 * i) x → k ≡ min (length text) (128 * i + 128) - 128 * i
+    → ((j : ℕ) → j < 8 → block_at ks j ≡ aes key (counter_block icb (8 * i + j)))
+    → part ≡ xor_bytes (take k (drop (128 * i) text)) ks
+    → put_mid (128 * i) k text part ≡ gctr_blocks key icb x (8 * (i + 1)) ++ drop (128 * (i + 1)) x
+gctr_more key icb x text part ks i k within e ek each ep =
+    let done : List ℕ = gctr_blocks key icb x (8 * i) in
+    let len : length done ≡ 128 * i = length-gctr_blocks key icb x (8 * i) ∙ omega arith in
+    let total : length text ≡ length x = ap length e ∙ length-append done (drop (128 * i) x) ∙ omega (arith, length-drop (128 * i) x) in
+    let front : take (128 * i) text ≡ done = ap (take (128 * i)) e ∙ take_at done (drop (128 * i) x) (128 * i) len in
+    let back : drop (128 * i) text ≡ drop (128 * i) x = ap (drop (128 * i)) e ∙ drop_at done (drop (128 * i) x) (128 * i) len in
+    let size : k ≡ min (length x) (128 * i + 128) - 128 * i = ek ∙ ap (λ (n : ℕ). min n (128 * i + 128) - 128 * i) total in
+    let group : take k (drop (128 * i) text) ≡ take 128 (drop (128 * i) x) = rw (back, size) (group_from_part x i) in
+    let rest : drop k (drop (128 * i) text) ≡ drop (128 * (i + 1)) x =
+    ap (drop k) back ∙ drop-drop k (128 * i) x ∙ drop_to_next x i (128 * i + k) (omega arith) in
+    let next : 8 * (i + 1) ≡ 8 * i + 8 = omega arith in
+    let place : 128 * i ≡ 16 * (8 * i) = omega arith in
+    let more : gctr_blocks key icb x (8 * (i + 1)) ≡ done ++ part =
+    ap (gctr_blocks key icb x) next ∙ gctr_blocks-add key icb x ks (8 * i) 8 each
+    ∙ ap (λ (n : ℕ). done ++ xor_bytes (take 128 (drop n x)) ks) (sym place) ∙ rw (ep, group) refl in
+    rw (front, rest, more, append_assoc) refl
 
-pub gctr_all : (key icb x text : List ℕ) (i : ℕ) → i ≡ div_ceil (length x) 16
-    → text ≡ gctr_blocks key icb x i ++ drop (16 * i) x → text ≡ gctr key icb x
+-- past the last block nothing is added
+gctr_blocks-past : (key icb x : List ℕ) (n k : ℕ) → length x ≤ 16 * n → gctr_blocks key icb x (n + k) ≡ gctr_blocks key icb x n
+unfolding gctr_blocks
+gctr_blocks-past key icb x n zero past = let none : n + 0 ≡ n = omega arith in ap (gctr_blocks key icb x) none
+gctr_blocks-past key icb x n (suc k) past =
+    let next : n + suc k ≡ suc (n + k) = omega arith in
+    let none : block_at x (n + k) ≡ [] = ap (take 16) (drop_all (16 * (n + k)) x (omega arith)) in
+    ap (gctr_blocks key icb x) next ∙ rw (none, append-nil) (gctr_blocks-past key icb x n k past)
+
+pub gctr_all : (key icb x text : List ℕ) (i : ℕ) → i ≡ div_ceil (length x) 128
+    → text ≡ gctr_blocks key icb x (8 * i) ++ drop (128 * i) x → text ≡ gctr key icb x
 unfolding gctr
 gctr_all key icb x text i last e =
-    let none : drop (16 * i) x ≡ [] = drop_all (16 * i) x (omega arith) in
-    e ∙ rw (none, append-nil, last) refl
+    let none : drop (128 * i) x ≡ [] = drop_all (128 * i) x (omega arith) in
+    let n = div_ceil (length x) 16 in
+    let over : 8 * i ≡ n + (8 * i - n) = omega arith in
+    e ∙ rw (none, append-nil) (ap (gctr_blocks key icb x) over ∙ gctr_blocks-past key icb x n (8 * i - n) (omega arith))

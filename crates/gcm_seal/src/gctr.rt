@@ -1,24 +1,43 @@
 // The counter mode of GCM (SP 800-38D, 6.2 and 6.5).
 
-ghost use Rattle.std.specs.Prelude.{◌≡◌, ◌≤◌, length};
-ghost use Rattle.gcm_seal.specs.Gcm.{inc32, gctr, xor_bytes};
+ghost use Rattle.std.specs.Prelude.{◌≡◌, ◌≤◌, ◌<◌, ℕ, length};
+ghost use Rattle.aes_block.specs.Cipher.{aes};
+ghost use Rattle.gcm_seal.specs.Gcm.{block_at, counter_block, inc32, gctr, xor_bytes};
 
 use super::BLOCK_LEN;
 use aes_block::Aes;
+
+// The blocks of key stream that are made in one call, and their bytes.
+const GROUP_BLOCKS: usize = 8;
+
+const GROUP_LEN: usize = 128;
 
 // GCTR (Algorithm 3) from the initial counter block, in place.
 pub fn apply<const NK: usize>(cipher: &Aes<NK>, initial: [u8; 16], text: &mut [u8])
     ensures { text.new ≡ gctr cipher.now initial text.old }
 {
-    let mut counter_block = initial;
-    for i in 0..text.len().div_ceil(BLOCK_LEN) {
-        let start = BLOCK_LEN * i;
-        let end = text.len().min(start + BLOCK_LEN);
-        let mut key_stream = counter_block;
-        cipher.encrypt_block(&mut key_stream);
-        xor_into(&mut text[start..end], &key_stream);
-        inc32(&mut counter_block);
+    let mut counter = initial;
+    for i in 0..text.len().div_ceil(GROUP_LEN) {
+        let start = GROUP_LEN * i;
+        let end = text.len().min(start + GROUP_LEN);
+        let stream = key_stream(cipher, &mut counter);
+        xor_into(&mut text[start..end], &stream);
     }
+}
+
+// The key stream of eight blocks from a counter block on, which counts up past them.
+fn key_stream<const NK: usize>(cipher: &Aes<NK>, counter: &mut [u8; 16]) -> [u8; 128]
+    ensures blocks { (j : ℕ) → j < 8 → block_at result j ≡ aes cipher.now (counter_block counter.old j) }
+    ensures counted { counter.new ≡ counter_block counter.old 8 }
+{
+    let mut stream = [0; GROUP_LEN];
+    for i in 0..GROUP_BLOCKS {
+        let start = BLOCK_LEN * i;
+        stream[start..start + BLOCK_LEN].copy_from_slice(counter);
+        inc32(counter);
+    }
+    cipher.encrypt_blocks(&mut stream);
+    stream
 }
 
 // Counts the last 32 bits of a block up by one.
@@ -29,8 +48,8 @@ pub fn inc32(block: &mut [u8; 16])
     block[12..].copy_from_slice(&counter.wrapping_add(1).to_be_bytes());
 }
 
-fn xor_into(part: &mut [u8], key_stream: &[u8; 16])
-    requires { length part.old ≤ 16 }
+fn xor_into(part: &mut [u8], key_stream: &[u8; 128])
+    requires { length part.old ≤ 128 }
     ensures { part.new ≡ xor_bytes part.old key_stream.now }
 {
     for (i, byte) in part.iter_mut().enumerate() {

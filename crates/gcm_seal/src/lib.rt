@@ -5,11 +5,13 @@
 ghost use Rattle.std.specs.Prelude.{◌≡◌, ◌≤◌, ◌↔◌, length, Some, None, OnOk, OnErr, IsErr};
 ghost use Rattle.gcm_seal.specs.Gcm.{IsKeyLength, gcm_seal, gcm_open, gcm_tag, inc32, j0};
 
+pub use crate::product::{GhashTable, product_laws};
 use aes_block::Aes;
 use thiserror::Error;
 
 mod gctr;
 mod ghash;
+mod product;
 #[cfg(test)]
 mod tests;
 

@@ -9,6 +9,11 @@ const TEXT: &[u8; 38] = b"two whole blocks and a part of a third";
 const SEALED: &[u8; 38] =
     b"\x9d\x1f\xd4\x5c\x25\xc7\x61\x54\xb6\xf1\x80\x6d\x95\x91\xf0\xcd\xfd\x38\x30\xae\xda\xe8\x51\x9f\xe0\x31\x3c\xea\xd9\x08\xb8\x21\x7a\x20\x6f\xf6\x2a\x71";
 
+// The end of 300 bytes sealed by another implementation, under the key of the bytes 0 to 31 and the
+// same initialization vector.
+const LONG_TAIL: &[u8; 48] =
+    b"\xc6\xd5\x08\x62\x77\x74\x84\x95\x61\x0a\xbe\xe7\x85\x37\x90\xc9\xac\xfd\x7c\x79\xd8\xfc\x33\xaf\x29\xac\xea\xc4\x71\xec\xf0\xef\xab\xb1\x96\xaa\x33\x13\xfb\x9e\x84\x66\xb7\xf9\x78\x87\x70\xb1";
+
 #[test]
 fn zero_keys(rt: HostRuntime) {
     let tag = seal(&[0; 16], &[0; 12], &[], &mut []);
@@ -59,6 +64,39 @@ fn partial_blocks_under_192_bits(rt: HostRuntime) {
 
     tag[15] ^= 1;
     assert_eq!(rt; unseal(&key, &iv, AAD, &mut text, &tag), Err(BadTag));
+}
+
+#[test]
+fn three_groups_of_blocks(rt: HostRuntime) {
+    let mut key = [0; 32];
+    for i in 0..32u8 {
+        key[i as usize] = i;
+    }
+    let iv = [100, 101, 102, 103, 104, 105, 106, 107, 108, 109, 110, 111];
+    let mut text = [0; 300];
+    let mut byte = 0u8;
+    for i in 0..300 {
+        text[i] = byte;
+        byte = byte.wrapping_add(7);
+    }
+    let tag = seal(&key, &iv, b"aad", &mut text);
+    assert_eq!(rt; &text[252..], LONG_TAIL.as_slice());
+    assert_eq!(rt;
+        u128::from_be_bytes(tag),
+        0x9004_db4d_b582_8fe1_b606_959c_81d3_909a
+    );
+}
+
+#[test]
+fn products_of_blocks(rt: HostRuntime) {
+    let h = 0x66e9_4bd4_ef8a_2c3b_884c_fa59_ca34_2b2e;
+    let x = 0x0388_dace_60b6_a392_f328_c2b9_71b2_fe78;
+    let expected = 0x5e2e_c746_9170_6288_2c85_b068_5353_deb7;
+    assert_eq!(rt; product::multiply_by_steps(x, h), expected);
+    assert_eq!(rt; product::multiply(x, &product::multiples(h)), expected);
+    let mut looks = 5;
+    assert_eq!(rt; GhashTable::new(h).mul_counted(x, &mut looks), expected);
+    assert_eq!(rt; looks, 37);
 }
 
 #[test]

@@ -5,3 +5,4 @@ pub mod Walking
 pub mod Groups
 pub mod Spelling
 pub mod FirstPlace
+pub mod Growth

@@ -1,5 +1,5 @@
 // Laws of the definitions. The functions do nothing.
-ghost use Rattle.std.specs.Prelude.{◌≡◌, ◌<◌, ◌≤◌, ℕ, List, Option, Some, None, Ok, Err, All, IfSome, IsSome, length, slice_index, map, true};
+ghost use Rattle.std.specs.Prelude.{◌≡◌, ◌<◌, ◌≤◌, ◌++◌, ℕ, List, Option, Some, None, Ok, Err, All, IfSome, IsSome, length, slice_index, map, true};
 ghost use Rattle.std.specs.List.{flat_map};
 ghost use Rattle.std.specs.Option.{option_map};
 ghost use Rattle.indirect_macs.specs.Entries.{IsBlockRef, IsNodeRef, block_under_mac, node_under_mac};
@@ -51,4 +51,14 @@ pub fn walks_stop_at_the_first_place_that_fails()
         → ((depth : ℕ) (place : Place) → place_at held index below top depth ≡ Some place
         → IsSome (passed held record_size place.level place.node))
         → walk held record_size index below top ≡ Ok (block_in held index (place_at held index below top below)) }
+{}
+
+/// A shelf that grows keeps what it gave: a node that passed its test passes it, and a walk that
+/// found a block or a hole finds the same. So what is put for a new tree changes nothing of an older
+/// one, as that of a snapshot.
+pub fn walks_stay_when_the_shelf_grows()
+    ensures nodes { (held more : List (List ℕ)) (record_size level : ℕ) (node : NodeRef) (bytes : List ℕ)
+        → passed held record_size level node ≡ Some bytes → passed (held ++ more) record_size level node ≡ Some bytes }
+    ensures blocks { (held more : List (List ℕ)) (record_size index below : ℕ) (top : Option NodeRef) (found : Option BlockRef)
+        → walk held record_size index below top ≡ Ok found → walk (held ++ more) record_size index below top ≡ Ok found }
 {}

@@ -14,7 +14,7 @@ mod walk;
 
 pub use fold::fold_mac;
 pub use laws::{
-    block_nodes_have_one_spelling, ref_nodes_have_one_spelling,
+    block_nodes_have_one_spelling, ref_nodes_have_one_spelling, walks_stay_when_the_shelf_grows,
     walks_stop_at_the_first_place_that_fails,
 };
 pub use refs::{BlockRef, MacError, NodeRef, ObjTree};

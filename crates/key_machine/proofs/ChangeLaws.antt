@@ -1,9 +1,8 @@
 -- A change of a key that its state accepts keeps it sound, and each family's master key.
-use Rattle.std.proofs.Common.{◌≡◌, ◌≢◌, ◌⊎◌, ⊎_elim, ℕ, Bool, true, false, not, cond, ◌&&◌, ◌==◌, nat_eq, List, [], ◌∷◌, map, Option, Some, None, IfSome, is_some, option_map, refl, ap, sym, ◌∙◌, subst, arith}
+use Rattle.std.proofs.Common.{◌≡◌, ◌≢◌, ◌⊎◌, ⊎_elim, ℕ, Bool, true, false, not, ◌&&◌, List, [], ◌∷◌, map, Option, Some, None, IfSome, is_some, option_map, refl, ap, sym, ◌∙◌, subst, arith}
 use Rattle.std.proofs.lemmas.Bool.{eq-eqb, ne_eqb, cases_eq}
 use Rattle.std.proofs.lemmas.Bool.Decides.{nat_tests}
 use Rattle.std.specs.Prelude.{get_or, is_none, unwrap_or}
-use Rattle.std.specs.List.{All}
 use Rattle.std.specs.Option.{option_and_then}
 use Rattle.std.specs.Str.{bytes_eq}
 use Rattle.dataset_tree.specs.declared.kinds.Kind.TheVariants.{Crypt}
@@ -15,9 +14,9 @@ use Rattle.encryption_roots.specs.declared.props.Options.{Options}
 use Rattle.encryption_roots.specs.declared.props.Props.{Props}
 use Rattle.encryption_roots.specs.ById.{at_id, with_id}
 use Rattle.encryption_roots.proofs.ByIdLemmas.{IsRisingById-with_id, at_id-with_id, at_id-with_id_other}
-use Rattle.key_machine.specs.Change.{changed_props, change_cases, with_own_root, changed, change_done}
+use Rattle.key_machine.specs.Change.{changed_props, change_cases, with_own_root, changed}
 use Rattle.key_machine.specs.Plain.{Plain, Stored, Master, Ciphers, owner_of, is_root, has_key, has_key_of, is_encrypted_row, is_same, owned, mkey}
-use Rattle.key_machine.specs.Rekey.{is_clone, has_key_row, with_record, with_records}
+use Rattle.key_machine.specs.Rekey.{is_clone, has_key_row, with_record}
 use Rattle.key_machine.specs.Sound.{Sound, IsEncrypted, OpensAt}
 use Rattle.key_machine.specs.Step.{refusal_of, target}
 use Rattle.key_machine.specs.Told.{Told}

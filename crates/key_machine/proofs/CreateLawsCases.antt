@@ -63,7 +63,7 @@ parent_there : (found : Option ℕ) → is_none found ≡ false → found ≡ So
 parent_there None known = absurd (cc)
 parent_there (Some parent) known = refl
 
-found_has : {X : Type 0} (P : X → Type 0) (test : X → Bool) (xs : List X) (x : X) → AllByRecursion P xs → find test xs ≡ Some x → P x
+pub found_has : {X : Type 0} (P : X → Type 0) (test : X → Bool) (xs : List X) (x : X) → AllByRecursion P xs → find test xs ≡ Some x → P x
 found_has P test [] x all found = cc
 found_has P test (first ∷ xs) x all found =
     (elim (test first) as (λ b. cond b (Some first) (find test xs) ≡ Some x → P x) [

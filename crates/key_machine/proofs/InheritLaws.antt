@@ -1,26 +1,23 @@
 -- A root that inherits its parent's key keeps the state sound, and each family's master key.
-use Rattle.std.proofs.Common.{◌≡◌, ◌≢◌, ◌⊎◌, ⊎_elim, ℕ, ◌<◌, ◌≤◌, Bool, true, false, not, cond, ◌&&◌, ◌==◌, List, [], ◌∷◌, map, Option, Some, None, IfSome, is_some, option_map, refl, ap, sym, ◌∙◌, subst, arith, if◌then◌else◌}
-use Rattle.std.proofs.lemmas.Bool.{eqb-true, cases_eq}
+use Rattle.std.proofs.Common.{◌≡◌, ◌≢◌, ◌⊎◌, ⊎_elim, ℕ, ◌<◌, ◌≤◌, Bool, true, false, not, ◌&&◌, ◌==◌, List, [], ◌∷◌, map, Option, Some, None, IfSome, is_some, refl, ap, sym, ◌∙◌, subst, arith, if◌then◌else◌}
 use Rattle.std.proofs.lemmas.Bool.Decides.{nat_tests}
 use Rattle.std.specs.Prelude.{get_or, unwrap_or}
-use Rattle.std.specs.List.{All}
 use Rattle.std.specs.Option.{option_and_then}
 use Rattle.dataset_tree.specs.declared.kinds.Kind.TheVariants.{Crypt}
 use Rattle.dataset_tree.specs.declared.refusal.Refusal.{Refusal}
-use Rattle.dataset_tree.specs.declared.refusal.Refusal.TheVariants.{WrongKey, KeyUnavailable}
+use Rattle.dataset_tree.specs.declared.refusal.Refusal.TheVariants.{KeyUnavailable}
 use Rattle.dataset_tree.specs.declared.tree.Row.{Row}
 use Rattle.dataset_tree.specs.Tree.{IsTree, row_of, row_named}
 use Rattle.encryption_roots.specs.declared.command.KeyCmd.TheVariants as commands
 use Rattle.encryption_roots.specs.declared.props.Props.{Props}
 use Rattle.encryption_roots.specs.ById.{at_id, without_id}
-use Rattle.encryption_roots.specs.Owners.{next_to_owner}
 use Rattle.encryption_roots.proofs.ByIdLemmas.{IsRisingById-without_id, at_id-without_id, at_id-without_id_other}
 use Rattle.encryption_roots.proofs.OwnerLemmas.{owner_of_other, next_of_child, ids_fall}
 use Rattle.key_machine.specs.Create.{has_parent_key, parent_key}
-use Rattle.key_machine.specs.Inherit.{row_above, inherit_cases, inherit_material, key_fault, key_above, inherited}
-use Rattle.key_machine.specs.Plain.{Plain, Stored, Master, Ciphers, owner_of, is_root, is_loaded, has_key, has_key_of, is_encrypted_row, is_same, owned, mkey}
+use Rattle.key_machine.specs.Inherit.{row_above, inherit_cases, inherit_material, key_above, inherited}
+use Rattle.key_machine.specs.Plain.{Plain, Stored, Master, Ciphers, owner_of, is_root, has_key, has_key_of, is_encrypted_row, is_same, owned, mkey}
 use Rattle.key_machine.specs.Refusals.{first_refusal, is_root_row}
-use Rattle.key_machine.specs.Rekey.{has_key_row, with_record, with_records}
+use Rattle.key_machine.specs.Rekey.{has_key_row, with_record}
 use Rattle.key_machine.specs.Sound.{Sound, IsEncrypted, OpensAt}
 use Rattle.key_machine.specs.Step.{refusal_of, material_refusal, target}
 use Rattle.key_machine.specs.Told.{Told, no_key}

@@ -20,3 +20,4 @@ pub mod InheritLaws
 pub mod RekeyFair
 pub mod ToldLaws
 pub mod RekeyLaws
+pub mod FamilyNames

@@ -1,5 +1,5 @@
 -- What a kit tells of a change or an inherit is fair in a sound state.
-use Rattle.std.proofs.Common.{◌≡◌, ◌≢◌, ◌⊎◌, ⊎_elim, inl, inr, ℕ, suc, ◌+◌, ◌<◌, ◌≤◌, Bool, true, false, not, cond, ◌&&◌, ◌==◌, List, [], ◌∷◌, length, map, Option, Some, None, Result, Ok, Err, IfSome, is_some, option_map, refl, ap, sym, ◌∙◌, subst, arith, if◌then◌else◌}
+use Rattle.std.proofs.Common.{◌≡◌, ⊎_elim, inl, inr, ℕ, ◌+◌, ◌<◌, ◌≤◌, Bool, true, false, not, ◌&&◌, ◌==◌, List, [], ◌∷◌, length, map, Option, Some, None, Result, Ok, Err, IfSome, is_some, option_map, refl, ap, sym, ◌∙◌, subst, arith, if◌then◌else◌}
 use Rattle.std.proofs.lemmas.Bool.{eqb-true}
 use Rattle.std.proofs.lemmas.Bool.Decides.{nat_tests}
 use Rattle.std.proofs.lemmas.List.Elements.{All-nil, All-cons, All-head, All-tail}
@@ -16,16 +16,15 @@ use Rattle.encryption_roots.specs.declared.kit.Fetched.{Fetched}
 use Rattle.encryption_roots.specs.declared.kit.LineKit.{LineKit}
 use Rattle.encryption_roots.specs.declared.props.Options.{Options}
 use Rattle.encryption_roots.specs.declared.props.Props.{Props}
-use Rattle.encryption_roots.specs.ById.{IsRisingById, at_id, with_id}
+use Rattle.encryption_roots.specs.ById.{at_id, with_id}
 use Rattle.encryption_roots.proofs.OwnerLemmas.{owner_by_walking, owner_of_root}
-use Rattle.key_machine.specs.Change.{changed_props, changed_format, changed_iters, changed_salt, change_material, with_own_root, told_changed, told_change, told_change_of, change_families}
+use Rattle.key_machine.specs.Change.{changed_props, changed_format, changed_iters, changed_salt, change_material, with_own_root, told_changed, told_change, change_families}
 use Rattle.key_machine.specs.Fair.{AreSound, IsFair, IsGenuine, AllOpen, AllKept}
 use Rattle.key_machine.specs.Inherit.{inherit_material, key_above, told_inherited, told_inherit, inherit_families, inherit_key}
-use Rattle.key_machine.specs.Plain.{Plain, Stored, Master, Ciphers, owner_of, is_root, has_key, has_key_of, is_same, owned, mkey}
+use Rattle.key_machine.specs.Plain.{Plain, Stored, Master, Ciphers, owner_of, has_key, has_key_of, is_same, owned, mkey}
 use Rattle.key_machine.specs.Rekey.{present_props, present_key, fetches_old, fetched_old, old_key, old_wrong, first_wrong_of, sealed_anew, rewrapped, told_anew}
-use Rattle.key_machine.specs.Reply.{Stepped}
 use Rattle.key_machine.specs.Sound.{Sound, OpensAt}
-use Rattle.key_machine.specs.Step.{key_step, refusal_of, material_refusal, target, told, IsAccepted}
+use Rattle.key_machine.specs.Step.{key_step, refusal_of, target, told, IsAccepted}
 use Rattle.key_machine.specs.Told.{Told, no_key, key_of, seed_of}
 use Rattle.key_machine.proofs.ChangeLaws.{IsFirst, IsChangeable, changeable}
 use Rattle.key_machine.proofs.InheritLaws.{IsInheritable, inheritable, none_there}

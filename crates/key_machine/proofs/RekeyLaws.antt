@@ -1,12 +1,12 @@
 -- What a change or an inherit leaves, and which record it names.
-use Rattle.std.proofs.Common.{◌≡◌, ◌≢◌, ⊎_elim, ℕ, Bool, true, false, cond, List, [], ◌∷◌, ◌++◌, Option, Some, None, Result, Ok, Err, is_some, option_map, refl, ap, sym, ◌∙◌, subst, if◌then◌else◌}
+use Rattle.std.proofs.Common.{◌≡◌, ⊎_elim, ℕ, Bool, true, false, cond, List, [], ◌∷◌, ◌++◌, Option, Some, None, Result, Ok, Err, is_some, option_map, refl, ap, sym, ◌∙◌, subst, if◌then◌else◌}
 use Rattle.std.proofs.lemmas.Bool.{cases_Bool}
 use Rattle.std.proofs.lemmas.List.Elements.{All-nil, All-cons}
 use Rattle.std.specs.Prelude.{unwrap_or}
 use Rattle.std.specs.List.{All}
 use Rattle.std.specs.Option.{option_and_then}
 use Rattle.dataset_tree.specs.declared.refusal.Refusal.{Refusal}
-use Rattle.dataset_tree.specs.declared.refusal.Refusal.TheVariants.{WrongKey, KeyUnavailable, EntropyFault}
+use Rattle.dataset_tree.specs.declared.refusal.Refusal.TheVariants.{WrongKey, KeyUnavailable}
 use Rattle.dataset_tree.specs.Tree.{row_named}
 use Rattle.encryption_roots.specs.declared.command.KeyCmd.TheVariants as commands
 use Rattle.encryption_roots.specs.declared.kit.LineKit.{LineKit}
@@ -14,20 +14,20 @@ use Rattle.encryption_roots.specs.declared.kit.SeedGot.{SeedGot}
 use Rattle.encryption_roots.specs.declared.kit.SeedGot.TheVariants as seeds
 use Rattle.encryption_roots.specs.declared.props.Options.{Options}
 use Rattle.encryption_roots.specs.declared.props.Props.{Props}
-use Rattle.encryption_roots.specs.ById.{at_id, with_id, without_id}
+use Rattle.encryption_roots.specs.ById.{at_id}
 use Rattle.encryption_roots.specs.Owners.{family}
 use Rattle.encryption_roots.proofs.ByIdLemmas.{at_id-with_id, at_id-with_id_other, at_id-without_id, at_id-without_id_other}
 use Rattle.encryption_roots.proofs.OwnerLemmas.{owner_of_family}
 use Rattle.key_machine.specs.Change.{changed_props, changed_format, changed_iters, changed_salt, change_families, told_changed, told_change, changed, change_done}
 use Rattle.key_machine.specs.Create.{has_parent_key}
 use Rattle.key_machine.specs.Fair.{IsFair, AllKept}
-use Rattle.key_machine.specs.Inherit.{unless_seed, key_fault, row_above, key_above, inherit_families, inherit_key, told_inherited, told_inherit, inherited, inherit_done}
+use Rattle.key_machine.specs.Inherit.{unless_seed, key_fault, row_above, key_above, inherit_families, told_inherited, told_inherit, inherited, inherit_done}
 use Rattle.key_machine.specs.Load.{first_wrong}
 use Rattle.key_machine.specs.Plain.{Plain, Stored, Ciphers, owner_of, has_key, has_key_of, is_same, owned, mkey}
 use Rattle.key_machine.specs.Refusals.{first_refusal}
 use Rattle.key_machine.specs.Rekey.{fetches_old, first_wrong_of, old_key, old_wrong, told_anew, with_record, with_records}
 use Rattle.key_machine.specs.Rekeyed.{IsRekeyed, IsFirstWrong}
-use Rattle.key_machine.specs.Reply.{Stepped, Done, Refused}
+use Rattle.key_machine.specs.Reply.{Stepped, Refused}
 use Rattle.key_machine.specs.Sound.{Sound}
 use Rattle.key_machine.specs.Step.{refusal_of, told, target, key_step, IsAccepted}
 use Rattle.key_machine.specs.Told.{Told, key_of, seed_of}
@@ -36,7 +36,7 @@ use Rattle.key_machine.proofs.FairLaws.{change_genuine, inherit_genuine, above_o
 use Rattle.key_machine.proofs.FamilyLaws.{heirs}
 use Rattle.key_machine.proofs.InheritLaws.{IsInheritable, inheritable, IsAbove, inherit_keeps}
 use Rattle.key_machine.proofs.RekeyRecords.{at_id-map, records_kept, records_written}
-use Rattle.key_machine.proofs.SoundLemmas.{done, accepted_step, refused_by_material}
+use Rattle.key_machine.proofs.SoundLemmas.{accepted_step, refused_by_material}
 
 -- ---- master keys
 

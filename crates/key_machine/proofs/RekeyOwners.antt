@@ -7,8 +7,8 @@ use Rattle.dataset_tree.specs.declared.tree.Row.{Row}
 use Rattle.dataset_tree.specs.Tree.{Datasets, IsTree, row_of}
 use Rattle.encryption_roots.specs.declared.props.Props.{Props}
 use Rattle.encryption_roots.specs.ById.{at_id, with_id, without_id}
-use Rattle.encryption_roots.specs.Owners.{owner, owner_within, owner_from, owner_by_kind, next_to_owner, IsRowOf}
-use Rattle.encryption_roots.proofs.ByIdLemmas.{at_id-with_id, at_id-with_id_other, at_id-without_id, at_id-without_id_other}
+use Rattle.encryption_roots.specs.Owners.{owner, owner_within, owner_from, owner_by_kind, next_to_owner}
+use Rattle.encryption_roots.proofs.ByIdLemmas.{at_id-with_id, at_id-with_id_other, at_id-without_id_other}
 use Rattle.encryption_roots.proofs.OwnerLemmas.{Falls, falls_in_tree, found_below, next_below, owner_by_walking, owner_of_root, owner_of_other, next_falls}
 
 -- ---- an owner isn't above what it owns

@@ -1,13 +1,12 @@
 -- Records that are written anew: where they stand, and to what they open.
-use Rattle.std.proofs.Common.{◌≡◌, ◌≢◌, ⊎_elim, ℕ, suc, ◌+◌, ◌<◌, Bool, true, false, cond, ◌==◌, List, [], ◌∷◌, length, map, Option, Some, None, IfSome, is_some, option_map, refl, ap, sym, ◌∙◌, subst, arith}
+use Rattle.std.proofs.Common.{◌≡◌, ◌≢◌, ⊎_elim, ℕ, suc, ◌+◌, ◌<◌, true, false, cond, ◌==◌, List, [], ◌∷◌, length, map, Option, Some, None, is_some, option_map, refl, ap, sym, ◌∙◌, subst, arith}
 use Rattle.std.proofs.lemmas.Bool.{eq-eqb, ne_eqb, cases_eq, cases_Bool}
 use Rattle.std.proofs.lemmas.List.Elements.{All-nil, All-cons, All-head, All-tail}
 use Rattle.std.proofs.lemmas.List.Kept.{AllPairs-cons}
 use Rattle.std.specs.Prelude.{unwrap_or}
-use Rattle.std.specs.List.{All, AllPairs, list_any}
+use Rattle.std.specs.List.{All, list_any}
 use Rattle.encryption_roots.specs.ById.{IsRisingById, at_id}
-use Rattle.key_machine.specs.Fair.{AllOpen, AllKept}
-use Rattle.key_machine.specs.Plain.{Plain, Stored, Master, Ciphers, is_same, has_key, mkey}
+use Rattle.key_machine.specs.Plain.{Stored, Ciphers, is_same}
 use Rattle.key_machine.specs.Rekey.{sealed_anew, rewrapped, with_record, with_records}
 use Rattle.salt_rotation.specs.Places.{vector_place}
 use Rattle.key_machine.proofs.KeyLists.{at_id_is}
@@ -35,7 +34,7 @@ rising-map change (entry ∷ entries) rising =
     AllPairs-cons (λ a b. a.0 < b.0) (entry.0, change entry) (map (λ e. (e.0, change e)) entries) above rest
 
 -- whether a value is there, by the ids alone
-there_by_ids : {X : Type 0} (id : ℕ) (entries : List (ℕ × X)) → is_some (at_id id entries) ≡ list_any (λ at. at == id) (map (λ entry. entry.0) entries)
+pub there_by_ids : {X : Type 0} (id : ℕ) (entries : List (ℕ × X)) → is_some (at_id id entries) ≡ list_any (λ at. at == id) (map (λ entry. entry.0) entries)
 there_by_ids id [] = refl
 there_by_ids id (entry ∷ entries) =
     let rest = there_by_ids id entries in

@@ -1,5 +1,5 @@
--- `change-key`: gives a dataset a key of its own. It becomes a root where it was none, and the records of the families that it then owns
--- are written anew under the new key, with the same master keys.
+-- `change-key`: gives a dataset a key of its own. It becomes a root where it was none, and the records
+-- of the families that it then owns are written anew under the new key, with the same master keys.
 use Rattle.std.specs.Prelude.{ℕ, Bool, true, not, ◌&&◌, ◌||◌, List, [], ◌∷◌, map, is_some, is_none, unwrap_or, if◌then◌else◌, Result, Ok, Err}
 use Rattle.std.specs.declared.option.Option.{Option}
 use Rattle.std.specs.declared.option.Option.TheVariants.{Some, None}
@@ -53,7 +53,7 @@ changed_props own opts salt = record { format = changed_format own opts; place =
 
 -- ---- refusals
 
--- no key format for a dataset that isn't a root, or iterations where the resulting format is no passphrase
+-- no key format for a dataset that isn't a root, or iterations where the new format is no passphrase
 abbrev pub are_bad_changes : Option Props → Options → Bool
 are_bad_changes own opts = is_none own && is_none opts.format || is_some opts.iters && not (is_passphrase (Some (changed_format own opts)))
 
@@ -71,14 +71,15 @@ change_cases p name opts load_first =
     ∷ (not load_first && not (has_key_row p row), KeyUnavailable)
     ∷ []
 
--- Then the old key's, that of a record that doesn't open under it, the new key's, and the seed's. Where the old key has a fault no record
--- is told wrong.
+-- Then the old key's, that of a record that doesn't open under it, the new key's, and the seed's.
+-- Where the old key has a fault no record is told wrong.
 abbrev pub change_material : Told → List (Option Refusal)
 change_material told = option_map (λ dataset. WrongKey dataset) told.wrong ∷ told.fault ∷ []
 
 -- ---- takings
 
--- the old key from its owner's location, the new one from the command's, else from the dataset's own, else at the prompt
+-- the old key from its owner's location, the new one from the command's, else from the dataset's
+-- own, else at the prompt
 abbrev pub change_wanted : Plain → List ℕ → Options → Bool → Wanted
 change_wanted p name opts load_first = record {
   old_place = old_place p load_first (row_named name p.tree.rows);
@@ -119,8 +120,9 @@ change_families p opts (Some id) = map (λ entry. entry.0) (owned (with_own_root
 
 -- ---- effect
 
--- The dataset is a root with the new properties, its key is loaded, and each family that it now owns has its record from those written.
--- A key of the former owner that was fetched serves this line alone.
+-- The dataset is a root with the new properties, its key is loaded, and each family that it now owns
+-- has its record from those written. A key of the former owner that was fetched serves this line
+-- alone.
 abbrev pub changed : Plain → ℕ → Options → Told → Plain
 changed p id opts told =
     let rooted = with_own_root p id opts told.salt in

@@ -1,5 +1,5 @@
--- `change-key -i`: a root uses its parent's key again. The records of the families that it owned are written anew under that key, with the
--- same master keys.
+-- `change-key -i`: a root uses its parent's key again. The records of the families that it owned are
+-- written anew under that key, with the same master keys.
 use Rattle.std.specs.Prelude.{ℕ, Bool, true, not, ◌&&◌, ◌==◌, List, [], ◌∷◌, map, is_none, if◌then◌else◌, Ok}
 use Rattle.std.specs.declared.option.Option.{Option}
 use Rattle.std.specs.declared.option.Option.TheVariants.{Some, None}
@@ -29,7 +29,8 @@ row_above p row = option_and_then (λ found. row_of found.parent p.tree.rows) ro
 abbrev pub fetches_own : Plain → Bool → Option Row → Bool
 fetches_own p load_first row = load_first && not (has_key_row p row)
 
--- Where the present key is to be fetched, its faults and that of a record come before a parent whose key isn't loaded.
+-- Where the present key is to be fetched, its faults and that of a record come before a parent whose
+-- key isn't loaded.
 abbrev pub inherit_cases : Plain → List ℕ → Bool → List (Bool × Refusal)
 inherit_cases p name load_first =
     let row = row_named name p.tree.rows in
@@ -49,7 +50,8 @@ unless_seed why = if number_of why == number_of EntropyFault then None else Some
 abbrev pub key_fault : Told → Option Refusal
 key_fault told = option_and_then unless_seed told.fault
 
--- the old key's, that of a record that doesn't open under it, that the parent's owner has no key loaded, and the seed's
+-- the old key's, that of a record that doesn't open under it, that the parent's owner has no key
+-- loaded, and the seed's
 abbrev pub inherit_material : Plain → List ℕ → Told → List (Option Refusal)
 inherit_material p name told =
     key_fault told
@@ -93,7 +95,8 @@ inherit_key p (Some id) = key_above p id
 
 -- ---- effect
 
--- The dataset is no root, its own key is no longer loaded, and each family that it owned has its record from those written.
+-- The dataset is no root, its own key is no longer loaded, and each family that it owned has its
+-- record from those written.
 abbrev pub inherited : Plain → ℕ → Told → Plain
 inherited p id told = record p {
   roots = without_id id p.roots;

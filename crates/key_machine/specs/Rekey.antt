@@ -1,5 +1,6 @@
--- What `change-key` and `change-key -i` have in common: the present key, which they may have to fetch, and the records that they
--- write anew, under another wrapping key and with the same master keys.
+-- What `change-key` and `change-key -i` have in common: the present key, which they may have to
+-- fetch, and the records that they write anew, under another wrapping key and with the same master
+-- keys.
 use Rattle.std.specs.Prelude.{ℕ, ◌+◌, Bool, false, not, ◌&&◌, ◌==◌, List, [], ◌∷◌, map, unwrap_or, if◌then◌else◌, Result, Ok, Err}
 use Rattle.std.specs.declared.option.Option.{Option}
 use Rattle.std.specs.declared.option.Option.TheVariants.{Some, None}
@@ -65,7 +66,7 @@ abbrev pub sealed_anew : Ciphers → (stored key vector : List ℕ) → Option M
 sealed_anew c stored key vector None = stored
 sealed_anew c stored key vector (Some m) = c.record_of m key vector
 
--- the records of these families anew, that of number i in the line with the seed's vector of that number
+-- the records of these families anew, that of number i in the line with the seed's vector i
 abbrev pub rewrapped : Ciphers → (seed old new : List ℕ) → ℕ → List (ℕ × Stored) → List (ℕ × List ℕ)
 rewrapped c seed old new i [] = []
 rewrapped c seed old new i (entry ∷ entries) =
@@ -73,8 +74,8 @@ rewrapped c seed old new i (entry ∷ entries) =
 
 -- ---- what they tell
 
--- By the old key, the new one and the seed: the first fault, and the first record that doesn't open, which is told where the old key has
--- no fault; where nothing fails, what the keys and the seed make.
+-- By the old key, the new one and the seed: the first fault, and the first record that doesn't open,
+-- which is told where the old key has no fault; where nothing fails, what the keys and the seed make.
 abbrev pub told_anew : (List ℕ → Option ℕ) → ((old new seed : List ℕ) → Told) → (old new seed : Result (List ℕ) Refusal) → Told
 told_anew wrong tells (Err why) new seed = fault_told why
 told_anew wrong tells (Ok old) (Err why) seed = record (fault_told why) { wrong = wrong old }
@@ -83,7 +84,7 @@ told_anew wrong tells (Ok old) (Ok new) (Ok seed) = tells old new seed
 
 -- ---- effect
 
--- the record that was written for a family, of several the first; where there is none, its own stays
+-- the record that was written for a family, of several the first; else its own stays
 abbrev pub with_record : List (ℕ × List ℕ) → ℕ × Stored → Stored
 with_record records entry = record entry.1 { wrapped = unwrap_or (at_id entry.0 records) entry.1.wrapped }
 

@@ -15,43 +15,75 @@ ghost use Rattle.key_machine.specs.Sound.{Sound};
 ghost use Rattle.key_machine.specs.Step.{refusal_of, told, target, key_step, IsAccepted};
 ghost use Rattle.key_machine.specs.Told.{Told};
 
-/// After an accepted change or inherit each family's master key is what it was, wherever its owner's key was loaded before.
+/// After an accepted change or inherit each family's master key is what it was, wherever its
+/// owner's key was loaded before.
 pub fn new_wrapping_keys_keep_the_master_keys()
-    ensures change { (c : Ciphers) (p : Plain) (name : List ℕ) (opts : Options) (load_first : Bool) (told : Told) (dataset : ℕ) → Sound c p
-        → IsFair c p (commands.Change name opts load_first) told → IsAccepted p (commands.Change name opts load_first) told → has_key p dataset ≡ true
-        → mkey c (key_step p (commands.Change name opts load_first) told).state (family p.tree.rows dataset) ≡ mkey c p (family p.tree.rows dataset) }
-    ensures inherit { (c : Ciphers) (p : Plain) (name : List ℕ) (load_first : Bool) (told : Told) (dataset : ℕ) → Sound c p
-        → IsFair c p (commands.Inherit name load_first) told → IsAccepted p (commands.Inherit name load_first) told → has_key p dataset ≡ true
-        → mkey c (key_step p (commands.Inherit name load_first) told).state (family p.tree.rows dataset) ≡ mkey c p (family p.tree.rows dataset) }
+    ensures change { (c : Ciphers) (p : Plain) (name : List ℕ) (opts : Options)
+        (load_first : Bool) (told : Told) (dataset : ℕ) →
+        let command = commands.Change name opts load_first in
+        let id = family p.tree.rows dataset in
+        Sound c p → IsFair c p command told → IsAccepted p command told → has_key p dataset ≡ true
+        → mkey c (key_step p command told).state id ≡ mkey c p id }
+    ensures inherit { (c : Ciphers) (p : Plain) (name : List ℕ) (load_first : Bool) (told : Told)
+        (dataset : ℕ) →
+        let command = commands.Inherit name load_first in
+        let id = family p.tree.rows dataset in
+        Sound c p → IsFair c p command told → IsAccepted p command told → has_key p dataset ≡ true
+        → mkey c (key_step p command told).state id ≡ mkey c p id }
 {}
 
-/// An accepted change makes its dataset a root with the new properties, whose key is loaded; an accepted inherit makes its root none, whose key
-/// isn't. Nothing else changes but the records of the families that the dataset owns after a change, and owned before an inherit, and of
-/// those no record size.
+/// An accepted change makes its dataset a root with the new properties, whose key is loaded; an
+/// accepted inherit makes its root none, whose key isn't. Nothing else changes but the records of
+/// the families that the dataset owns after a change, and owned before an inherit, and of those no
+/// record size.
 pub fn new_wrapping_keys_change_their_families_alone()
-    ensures change { (p : Plain) (name : List ℕ) (opts : Options) (load_first : Bool) (told : Told) (id : ℕ) → target p (commands.Change name opts load_first) ≡ Some id
-        → IsAccepted p (commands.Change name opts load_first) told
-        → IsRekeyed p (key_step p (commands.Change name opts load_first) told).state id (Some (changed_props (at_id id p.roots) opts told.salt)) (Some told.key)
-        (owner_of (key_step p (commands.Change name opts load_first) told).state) told.wrapped }
-    ensures inherit { (p : Plain) (name : List ℕ) (load_first : Bool) (told : Told) (id : ℕ) → target p (commands.Inherit name load_first) ≡ Some id
-        → IsAccepted p (commands.Inherit name load_first) told → IsRekeyed p (key_step p (commands.Inherit name load_first) told).state id None None (owner_of p) told.wrapped }
-    ensures changed { (p : Plain) (name : List ℕ) (opts : Options) (load_first : Bool) (told : Told) (id : ℕ) → target p (commands.Change name opts load_first) ≡ Some id
-        → IsAccepted p (commands.Change name opts load_first) told → (key_step p (commands.Change name opts load_first) told).reply ≡ Done }
-    ensures inherited { (p : Plain) (name : List ℕ) (load_first : Bool) (told : Told) (id : ℕ) → target p (commands.Inherit name load_first) ≡ Some id
-        → IsAccepted p (commands.Inherit name load_first) told → (key_step p (commands.Inherit name load_first) told).reply ≡ Done }
+    ensures change { (p : Plain) (name : List ℕ) (opts : Options) (load_first : Bool) (told : Told)
+        (id : ℕ) →
+        let command = commands.Change name opts load_first in
+        let after = (key_step p command told).state in
+        let props = changed_props (at_id id p.roots) opts told.salt in
+        target p command ≡ Some id → IsAccepted p command told
+        → IsRekeyed p after id (Some props) (Some told.key) (owner_of after) told.wrapped }
+    ensures inherit { (p : Plain) (name : List ℕ) (load_first : Bool) (told : Told) (id : ℕ) →
+        let command = commands.Inherit name load_first in
+        let after = (key_step p command told).state in
+        target p command ≡ Some id → IsAccepted p command told
+        → IsRekeyed p after id None None (owner_of p) told.wrapped }
+    ensures changed { (p : Plain) (name : List ℕ) (opts : Options) (load_first : Bool)
+        (told : Told) (id : ℕ) →
+        let command = commands.Change name opts load_first in
+        target p command ≡ Some id → IsAccepted p command told
+        → (key_step p command told).reply ≡ Done }
+    ensures inherited { (p : Plain) (name : List ℕ) (load_first : Bool) (told : Told) (id : ℕ) →
+        let command = commands.Inherit name load_first in
+        target p command ≡ Some id → IsAccepted p command told
+        → (key_step p command told).reply ≡ Done }
 {}
 
-/// A kit's material tells a wrong record only where the old key was fetched: it is the first one of the present owner's families, by id, that doesn't open
-/// under that key, and the step is refused for it, before a fault of the new key or of the seed.
+/// A kit's material tells a wrong record only where the old key was fetched: it is the first one
+/// of the present owner's families, by id, that doesn't open under that key, and the step is
+/// refused for it, before a fault of the new key or of the seed.
 pub fn a_wrong_key_names_the_first_family()
-    ensures change { (c : Ciphers) (p : Plain) (name : List ℕ) (opts : Options) (load_first : Bool) (kit : LineKit) (first : ℕ)
-        → (told c p (commands.Change name opts load_first) kit).wrong ≡ Some first → IsFirstWrong c p (target p (commands.Change name opts load_first)) load_first kit first }
-    ensures inherit { (c : Ciphers) (p : Plain) (name : List ℕ) (load_first : Bool) (kit : LineKit) (first : ℕ)
-        → (told c p (commands.Inherit name load_first) kit).wrong ≡ Some first → IsFirstWrong c p (target p (commands.Inherit name load_first)) load_first kit first }
-    ensures change_refused { (c : Ciphers) (p : Plain) (name : List ℕ) (opts : Options) (load_first : Bool) (kit : LineKit) (first : ℕ)
-        → refusal_of p (commands.Change name opts load_first) ≡ None → (told c p (commands.Change name opts load_first) kit).wrong ≡ Some first
-        → (key_step p (commands.Change name opts load_first) (told c p (commands.Change name opts load_first) kit)).reply ≡ Refused (WrongKey first) }
-    ensures inherit_refused { (c : Ciphers) (p : Plain) (name : List ℕ) (load_first : Bool) (kit : LineKit) (first : ℕ)
-        → refusal_of p (commands.Inherit name load_first) ≡ None → (told c p (commands.Inherit name load_first) kit).wrong ≡ Some first
-        → (key_step p (commands.Inherit name load_first) (told c p (commands.Inherit name load_first) kit)).reply ≡ Refused (WrongKey first) }
+    ensures change { (c : Ciphers) (p : Plain) (name : List ℕ) (opts : Options)
+        (load_first : Bool) (kit : LineKit) (first : ℕ) →
+        let command = commands.Change name opts load_first in
+        (told c p command kit).wrong ≡ Some first
+        → IsFirstWrong c p (target p command) load_first kit first }
+    ensures inherit { (c : Ciphers) (p : Plain) (name : List ℕ) (load_first : Bool)
+        (kit : LineKit) (first : ℕ) →
+        let command = commands.Inherit name load_first in
+        (told c p command kit).wrong ≡ Some first
+        → IsFirstWrong c p (target p command) load_first kit first }
+    ensures change_refused { (c : Ciphers) (p : Plain) (name : List ℕ) (opts : Options)
+        (load_first : Bool) (kit : LineKit) (first : ℕ) →
+        let command = commands.Change name opts load_first in
+        let facts = told c p command kit in
+        refusal_of p command ≡ None → facts.wrong ≡ Some first
+        → (key_step p command facts).reply ≡ Refused (WrongKey first) }
+    ensures inherit_refused { (c : Ciphers) (p : Plain) (name : List ℕ) (load_first : Bool)
+        (kit : LineKit) (first : ℕ) →
+        let command = commands.Inherit name load_first in
+        let facts = told c p command kit in
+        refusal_of p command ≡ None → facts.wrong ≡ Some first
+        → (key_step p command facts).reply ≡ Refused (WrongKey first) }
 {}

@@ -25,8 +25,9 @@ pub fn fair_steps_keep_soundness()
     ensures { (c : Ciphers) (p : Plain) (command : KeyCmd) (told : Told) → Sound c p → IsFair c p command told → Sound c (key_step p command told).state }
 {}
 
-/// What a kit tells is fair in every sound state, where the ciphers are sound: a new record opens under the key that will own it, and to the
-/// master key that its family has; and a load is accepted only where each record that the root owns opens.
+/// What a kit tells is fair in every sound state, where the ciphers are sound: a record that is
+/// written opens under the key that will own it, and to the master key that its family has; and a
+/// load is accepted only where each record that the root owns opens.
 pub fn what_a_kit_tells_is_fair()
     ensures { (c : Ciphers) (p : Plain) (command : KeyCmd) (kit : LineKit) → AreSound c → Sound c p → IsFair c p command (told c p command kit) }
 {}

@@ -20,7 +20,7 @@ pub use change_laws::{
 };
 pub use change_values::{
     changes_are_refused_in_order, defaults_of_a_change, heirs_are_created,
-    inherits_are_refused_in_order, places_of_new_keys, records_of_new_keys,
+    inherits_are_refused_in_order, places_of_new_keys, records_of_new_keys, what_new_keys_tell,
 };
 pub use create_laws::a_new_root_has_its_key;
 pub use key_laws::{
@@ -31,7 +31,10 @@ pub use laws::{
     a_fault_tells_nothing_else, a_refusal_changes_nothing, each_step_keeps_the_tree,
     fair_steps_keep_soundness, nothing_is_sound, what_a_kit_tells_is_fair,
 };
-pub use sound_laws::{a_loaded_key_opens_its_families, mounts_and_holds_are_bounded};
+pub use sound_laws::{
+    a_loaded_key_opens_its_families, mounts_and_holds_are_bounded,
+    records_are_of_the_owned_families,
+};
 pub use values::{
     creates_are_refused_in_order, defaults_of_a_create, holds_of_a_rider, holds_stand_by_rider,
     loads_are_refused_in_order, master_keys_of_families, places_of_takings, users_of_keys,

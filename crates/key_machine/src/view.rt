@@ -22,7 +22,8 @@ pub trait KeyView {
 
     /// The key record of a family as it is stored, `None` where there is none.
     fn wrapped(&self, family: u32) -> Option<RecordBytes>
-        ensures { result ≡ option_map (λ stored. stored.wrapped) (at_id family (shows self.now).wrapped) };
+        ensures { result
+            ≡ option_map (λ stored. stored.wrapped) (at_id family (shows self.now).wrapped) };
 
     /// The wrapping key of a root, `None` where it isn't loaded.
     fn loaded(&self, root: u32) -> Option<[u8; 32]>
@@ -38,6 +39,6 @@ pub struct ChangePlan {
     pub props: Option<Props>,
     /// Its wrapping key of 32 bytes, `None` where it is no root any longer.
     pub key: Option<[u8; 32]>,
-    /// The key records that are written anew: ids of families, in rising order, with the stored bytes.
+    /// The key records that are written anew: ids of families, rising, with the stored bytes.
     pub wrapped: Vec<(u32, RecordBytes)>,
 }

@@ -246,13 +246,13 @@ module _ (p : Plain) (name : List ℕ) (opts : Options) (heir : makes_heir p nam
         let free_name : IsFree p name opts = free p name opts accepted in
         let parent : (row : Row) × (parent_row p name ≡ Some row) × (row.kind ≡ Crypt) = encrypted_row (parent_row p name) heir_below in
         let has : has_parent_key p (parent_row p name) ≡ true = not_lacking (makes_heir p name opts) (has_parent_key p (parent_row p name)) free_name.key heir in
-        let loaded : has_key_of p (owner_of p parent.0.id) ≡ true = sym (ap (λ row. has_parent_key p row) parent.1.0) ∙ has in
+        let loaded : has_key_of p (owner_of p parent.0.id) ≡ true = sym (ap (λ row. has_parent_key p row) parent.1) ∙ has in
         let key = key_there p (owner_of p parent.0.id) loaded in
-        let owner : owner_of made id ≡ Some key.0 = heir_owner ciphers p name opts facts sound free_name.absent free_name.parent parent.0 parent.1.0 ∙ key.1.1.0 in
-        let opened : mkey ciphers made id ≡ ciphers.opens (new_stored id opts facts).wrapped key.1.0 =
-        mkey_by ciphers made id key.0 (new_stored id opts facts) key.1.0 (at_id-with_id id (new_stored id opts facts) p.wrapped) owner key.1.1.1 in
-        let same : own_key ≡ key.1.0 = ap (λ row. parent_key p row) parent.1.0 ∙ known_key (owner_of p parent.0.id) key.0 key.1.0 key.1.1.0 key.1.1.1 in
-        ap (λ m. is_some m) opened ∙ ap (λ (s : Stored). is_some (ciphers.opens s.wrapped key.1.0)) is.stored ∙ ap (λ (k : List ℕ). is_some (ciphers.opens family.wrapped k)) (sym same) ∙ is.opens
+        let owner : owner_of made id ≡ Some key.0 = heir_owner ciphers p name opts facts sound free_name.absent free_name.parent parent.0 parent.1 ∙ key.2 in
+        let opened : mkey ciphers made id ≡ ciphers.opens (new_stored id opts facts).wrapped key.1 =
+        mkey_by ciphers made id key.0 (new_stored id opts facts) key.1 (at_id-with_id id (new_stored id opts facts) p.wrapped) owner key.3 in
+        let same : own_key ≡ key.1 = ap (λ row. parent_key p row) parent.1 ∙ known_key (owner_of p parent.0.id) key.0 key.1 key.2 key.3 in
+        ap (λ m. is_some m) opened ∙ ap (λ (s : Stored). is_some (ciphers.opens s.wrapped key.1)) is.stored ∙ ap (λ (k : List ℕ). is_some (ciphers.opens family.wrapped k)) (sym same) ∙ is.opens
       where
         known_key : (owner : Option ℕ) (root : ℕ) (key : List ℕ) → owner ≡ Some root → at_id root p.loaded ≡ Some key → unwrap_or (option_and_then (λ root. at_id root p.loaded) owner) no_key ≡ key
         known_key owner root key is_owner found = rw (is_owner, found) refl

@@ -63,4 +63,4 @@ first_wrong-find p root key records = first_wrong-found ciphers (λ family. is_s
 -- ---- an unload takes nothing
 
 pub unload_fair : (p : Plain) (name : List ℕ) → IsFair ciphers p (commands.Unload name) nothing_told
-unload_fair p name = inr (record { owned = tt; families = refl; opened = All-nil _ })
+unload_fair p name = inr (record { owned = tt; families = refl; opened = All-nil _; kept = All-nil _ })

@@ -3,6 +3,7 @@ pub mod RunLemmas
 pub mod WordLemmas
 pub mod OptionLemmas
 pub mod SettingLemmas
+pub mod DigitLemmas
 pub mod ReadLemmas
 pub mod OptionRunLemmas
 pub mod FormLemmas

@@ -1,5 +1,5 @@
 -- The record size of a line is in form.
-use Rattle.std.proofs.Common.{◌≡◌, not, ◌||◌, is_some, IfOk, eqb, ℕ, Option, Some, None, inl, inr, List, [], ◌∷◌, ◌++◌, length, Result, Ok, Err, sym, subst}
+use Rattle.std.proofs.Common.{◌≡◌, IfOk, eqb, ℕ, Option, Some, None, inl, inr, List, [], ◌∷◌, ◌++◌, length, Result, Ok, Err, sym, subst}
 use Rattle.std.specs.List.{AllByRecursion, fold}
 use Rattle.encryption_roots.specs.Options.{no_options}
 use Rattle.encryption_roots.specs.RecordSize.{IsRecordSize}
@@ -10,12 +10,12 @@ use Rattle.shell_lines.specs.declared.line.LineStop.{LineStop}
 use Rattle.shell_lines.specs.declared.line.LineStop.TheVariants as stops
 use Rattle.shell_lines.specs.declared.setting.OptionKind.{OptionKind}
 use Rattle.shell_lines.specs.declared.setting.Setting.{Setting}
-use Rattle.shell_lines.specs.declared.setting.Setting.TheVariants.{Encryption, KeyFormat, KeyLocation, RecordSize}
-use Rattle.shell_lines.specs.Settings.{with_setting, options_with}
+use Rattle.shell_lines.specs.declared.setting.Setting.TheVariants.{Encryption, KeyFormat, KeyLocation, Iterations, RecordSize, CheckOnly, LoadFrom}
+use Rattle.shell_lines.specs.Settings.{with_setting}
 use Rattle.shell_lines.specs.Words.{WordAt, words_of}
 use Rattle.shell_lines.specs.Reading.{Value}
 use Rattle.shell_lines.specs.Forms.{Form, end_as, word_then, options_then, Command, line_from}
-use Rattle.shell_lines.specs.Commands.{created, commands}
+use Rattle.shell_lines.specs.Commands.{commands}
 use Rattle.shell_lines.specs.Grammar.{Spells, line_of, placed_of, is_comment, printable_line, first_unprintable}
 use Rattle.shell_lines.specs.Language.{Spelled, IsSpelled, settings_of, AreNew, Matches, Makes, CommandMakes, IsLine, texts_of}
 use Rattle.shell_lines.specs.Sized.{SizedOptions, HasRecordSize}
@@ -30,7 +30,10 @@ spelled_sized : (word : Option (List ℕ)) (setting : Setting) → IsSpelled wor
 spelled_sized word (Encryption suite) h = tt
 spelled_sized word (KeyFormat format) h = tt
 spelled_sized word (KeyLocation place) h = tt
+spelled_sized word (Iterations count) h = tt
 spelled_sized word (RecordSize size) h = h.is_value.1
+spelled_sized word CheckOnly h = tt
+spelled_sized word (LoadFrom place) h = tt
 
 all_sized : (kinds : List OptionKind) (spelled : List Spelled) (settings : List Setting) → AreNew kinds settings spelled → AllByRecursion SetsRecordSize (settings_of spelled)
 all_sized kinds [] settings h = tt
@@ -40,7 +43,10 @@ with_sized : (options : Options) (setting : Setting) → SizedOptions options �
 with_sized options (Encryption suite) h s = h
 with_sized options (KeyFormat format) h s = h
 with_sized options (KeyLocation place) h s = h
+with_sized options (Iterations count) h s = h
 with_sized options (RecordSize size) h s = s
+with_sized options CheckOnly h s = h
+with_sized options (LoadFrom place) h s = h
 
 fold_sized : (settings : List Setting) (options : Options) → SizedOptions options → AllByRecursion SetsRecordSize settings → SizedOptions (fold with_setting options settings)
 fold_sized [] options h all = h
@@ -53,13 +59,10 @@ Sized (end_as (Some line)) = HasRecordSize line
 Sized (word_then kind next) = (value : Value kind) → Sized (next value)
 Sized (options_then kinds next) = (settings : List Setting) → AllByRecursion SetsRecordSize settings → Sized (next settings)
 
-created_sized : (name : List ℕ) (options : Options) → SizedOptions options → Sized (end_as (created name options))
-created_sized name options h = by_bool (not (is_some options.format) || is_some options.place) (λ e. rw e h) (λ e. rw e tt)
-
 commands_sized : AllByRecursion (λ command. AllByRecursion Sized command.forms) commands
 commands_sized = (
-  ((λ settings all name. created_sized name (options_with settings) (fold_sized settings no_options tt all)), tt),
-  ((λ name. tt, tt), ((λ name. tt, tt), ((λ prop name. tt, tt), ((tt, tt), tt)))),
+  ((λ settings all name. fold_sized settings no_options tt all), tt),
+  ((λ settings all name. tt, tt), ((λ name. tt, tt), ((λ prop name. tt, tt), ((tt, tt), tt)))),
 )
 
 form_sized : (options : List (List ℕ)) (form : Form) (line : Line) (words : List (List ℕ)) → Sized form → Matches options form (Some line) words → HasRecordSize line

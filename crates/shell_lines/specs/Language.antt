@@ -3,12 +3,15 @@ use Rattle.std.specs.Prelude.{◌≡◌, ◌≢◌, ℕ, ◌<◌, ◌≤◌, ◌
 use Rattle.std.specs.declared.option.Option.{Option}
 use Rattle.std.specs.declared.option.Option.TheVariants.{Some, None}
 use Rattle.std.specs.Fmt.{decimal}
+use Rattle.std.specs.Str.Parse.{IsNumeral, digits_value}
 use lib.Chars.{codes}
 use Rattle.dataset_tree.specs.Suite.{suite_name}
 use Rattle.dataset_tree.specs.declared.kinds.Suite.TheVariants.{Aes256Gcm}
-use Rattle.dataset_tree.specs.declared.kinds.Format.TheVariants.{Raw}
+use Rattle.dataset_tree.specs.declared.kinds.Format.{Format}
+use Rattle.dataset_tree.specs.declared.kinds.Format.TheVariants.{Raw, Hex, Passphrase}
 use Rattle.encryption_roots.specs.PathText.{is_path}
 use Rattle.encryption_roots.specs.RecordSize.{IsRecordSize}
+use Rattle.encryption_roots.specs.declared.props.Location.{Location}
 use Rattle.encryption_roots.specs.declared.props.Location.TheVariants.{Prompt, File}
 use Rattle.encryption_roots.specs.declared.props.Prop.{Prop}
 use Rattle.encryption_roots.specs.declared.props.Prop.TheVariants as props
@@ -16,7 +19,7 @@ use Rattle.shell_lines.specs.declared.line.Line.{Line}
 use Rattle.shell_lines.specs.declared.line.Line.TheVariants.{Silent}
 use Rattle.shell_lines.specs.declared.setting.OptionKind.{OptionKind}
 use Rattle.shell_lines.specs.declared.setting.Setting.{Setting}
-use Rattle.shell_lines.specs.declared.setting.Setting.TheVariants.{Encryption, KeyFormat, KeyLocation, RecordSize}
+use Rattle.shell_lines.specs.declared.setting.Setting.TheVariants.{Encryption, KeyFormat, KeyLocation, Iterations, RecordSize, CheckOnly, LoadFrom}
 use Rattle.shell_lines.specs.Settings.{dash, kind_of}
 use Rattle.shell_lines.specs.Reading.{WordKind, a_name, a_property, the_word, Value, has_kind, is_set, begins_option}
 use Rattle.shell_lines.specs.Forms.{Form, end_as, word_then, options_then, Command}
@@ -51,13 +54,40 @@ pub record IsKeyValue (word : Option (List ℕ)) (key : List ℕ) (IsValue : Lis
   pub spells : word ≡ Some (key ++ codes "=" ++ value)
   pub is_value : IsValue value
 
+abbrev pub format_name : Format → List ℕ
+format_name Raw = codes "raw"
+format_name Hex = codes "hex"
+format_name Passphrase = codes "passphrase"
+
+-- `prompt`, or `file://` and a path
+abbrev pub IsLocation : List ℕ → Location → Type 0
+IsLocation word Prompt = word ≡ codes "prompt"
+IsLocation word (File path) = (word ≡ codes "file://" ++ path) × (is_path path ≡ true)
+
+-- 1 to 10 decimal digits, which write this number
+pub record IsNumber (word : List ℕ) (number : ℕ) : Type 0 where
+  pub digits : IsNumeral 10 word
+  pub short : length word ≤ 10
+  pub is : number ≡ digits_value 10 word
+
+-- the one word, which is this location
+pub record IsLocationWord (word : Option (List ℕ)) (place : Location) : Type 0 where
+  pub value : List ℕ
+  pub spells : word ≡ Some value
+  pub is_value : IsLocation value place
+
 -- an option's words behind the first one, of which it has one or none, make this setting
 abbrev pub IsSpelled : Option (List ℕ) → Setting → Type 0
 IsSpelled word (Encryption suite) = IsKeyValue word (codes "encryption") (λ value. (value ≡ suite_name suite) ⊎ ((value ≡ codes "on") × (suite ≡ Aes256Gcm)))
-IsSpelled word (KeyFormat format) = IsKeyValue word (codes "keyformat") (λ value. (value ≡ codes "raw") × (format ≡ Raw))
-IsSpelled word (KeyLocation Prompt) = ⊥
-IsSpelled word (KeyLocation (File path)) = IsKeyValue word (codes "keylocation") (λ value. (value ≡ codes "file://" ++ path) × (is_path path ≡ true))
+IsSpelled word (KeyFormat format) =
+    IsKeyValue word (codes "keyformat") (λ value. value ≡ format_name format)
+IsSpelled word (KeyLocation place) =
+    IsKeyValue word (codes "keylocation") (λ value. IsLocation value place)
+IsSpelled word (Iterations count) =
+    IsKeyValue word (codes "pbkdf2iters") (λ value. IsNumber value count)
 IsSpelled word (RecordSize size) = IsKeyValue word (codes "recordsize") (λ value. (value ≡ decimal size) × IsRecordSize size)
+IsSpelled word CheckOnly = word ≡ None
+IsSpelled word (LoadFrom place) = IsLocationWord word place
 
 -- what stands behind an option's first word, and the setting that it makes
 abbrev pub Spelled : Type 0

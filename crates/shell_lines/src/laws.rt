@@ -1,8 +1,12 @@
 // Laws of the language, above the definitions that `parse_line` is proved against.
-ghost use Rattle.std.specs.Prelude.{◌≡◌, ◌≢◌, ℕ, ◌<◌, ◌↔◌, List, [], length, slice_index};
+ghost use Rattle.std.specs.Prelude.{◌≡◌, ◌≢◌, ℕ, ◌<◌, ◌↔◌, true, false, List, [], None, Some, length, slice_index};
 ghost use Rattle.std.specs.List.{All};
+ghost use lib.Chars.{codes};
+ghost use Rattle.dataset_tree.specs.declared.kinds.Format.TheVariants.{Hex, Passphrase};
+ghost use Rattle.encryption_roots.specs.Options.{no_options};
+ghost use Rattle.encryption_roots.specs.declared.props.Location.TheVariants.{Prompt, File};
 ghost use Rattle.shell_lines.specs.declared.line.Line.{Line};
-ghost use Rattle.shell_lines.specs.declared.line.Line.TheVariants.{Silent};
+ghost use Rattle.shell_lines.specs.declared.line.Line.TheVariants.{Silent, Create, LoadKey};
 ghost use Rattle.shell_lines.specs.Words.{words_of};
 ghost use Rattle.shell_lines.specs.Runs.{IsRun, IsInWord, StandFrom};
 ghost use Rattle.shell_lines.specs.Commands.{commands};
@@ -19,6 +23,19 @@ pub fn bad_at_the_first_wrong_word()
     ensures wrong { (bytes : List ℕ) (at : ℕ) → IsPlain bytes → (line_of bytes 0 ≡ Err at ↔ IsFirstWrong commands (words_of bytes) (length bytes) at) }
     ensures blank { (bytes : List ℕ) (inside : ℕ) → IsPlain bytes → words_of bytes ≡ [] → line_of bytes inside ≡ Ok Silent }
     ensures inside { (bytes : List ℕ) (inside : ℕ) → IsPlain bytes → 0 < inside → words_of bytes ≢ [] → line_of bytes inside ≡ Err 0 }
+{}
+
+/// Values of the language: what sample options say.
+pub fn options_say_what_they_spell()
+    ensures passphrase { line_of (codes "create -o pbkdf2iters=0100000 -o keylocation=prompt -o keyformat=passphrase t") 0
+        ≡ Ok (Create (codes "t") (record no_options
+        { format = Some Passphrase; place = Some Prompt; iters = Some 100000 })) }
+    ensures hex { line_of (codes "create -o keyformat=hex t") 0
+        ≡ Ok (Create (codes "t") (record no_options { format = Some Hex })) }
+    ensures tested { line_of (codes "load-key -n t") 0 ≡ Ok (LoadKey (codes "t") true None) }
+    ensures fetched { line_of (codes "load-key -L file:///k t") 0
+        ≡ Ok (LoadKey (codes "t") false (Some (File (codes "/k")))) }
+    ensures once { line_of (codes "load-key -n -n t") 0 ≡ Err 12 }
 {}
 
 /// The law of record sizes: that of a line, where it has one, is in form.

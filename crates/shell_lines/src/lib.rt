@@ -8,7 +8,10 @@ mod parse;
 mod setting;
 mod words;
 
-pub use laws::{bad_at_the_first_wrong_word, record_sizes_are_in_form, words_are_the_longest_runs};
+pub use laws::{
+    bad_at_the_first_wrong_word, options_say_what_they_spell, record_sizes_are_in_form,
+    words_are_the_longest_runs,
+};
 pub use line::{Line, LineStop, Word};
 pub use parse::parse_line;
 

@@ -2,7 +2,7 @@
 ghost use Rattle.std.specs.Prelude.{◌≡◌, IfOk};
 ghost use Rattle.shell_lines.specs.declared.line.LineStop.TheVariants.{NoMemory as OutOfMemory};
 
-use encryption_roots::{Options, Prop};
+use encryption_roots::{Location, Options, Prop};
 use std::alloc::{AllocError, Global};
 use std::marker::Model;
 
@@ -43,13 +43,27 @@ pub enum Line {
     /// A line without words, or one that begins with `#` or `<`.
     Silent,
     /// `create`, options `-o KEY=VALUE`, `NAME`
-    Create { name: Word, opts: Options },
-    /// `load-key NAME`
-    LoadKey { name: Word },
+    Create {
+        name: Word,
+        opts: Options,
+    },
+    /// `load-key`, zero or one `-n` and `-L LOC`, `NAME`
+    LoadKey {
+        name: Word,
+        /// `-n`: the key is tested and not kept.
+        check_only: bool,
+        /// `-L`: where the key is fetched in place of the root's own location.
+        place: Option<Location>,
+    },
     /// `unload-key NAME`
-    UnloadKey { name: Word },
+    UnloadKey {
+        name: Word,
+    },
     /// `get PROP NAME`
-    Get { prop: Prop, name: Word },
+    Get {
+        prop: Prop,
+        name: Word,
+    },
     /// `list`
     List,
 }

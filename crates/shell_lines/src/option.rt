@@ -87,7 +87,8 @@ fn has_kind(kinds: &[OptionKind], kind: OptionKind) -> bool
     kinds.iter().any(|other| is_same(*other, kind))
 }
 
-fn is_set(settings: &[Setting], kind: OptionKind) -> bool
+/// Whether one of the settings is of this kind.
+pub(crate) fn is_set(settings: &[Setting], kind: OptionKind) -> bool
     ensures { result ≡ is_set settings.now kind }
 {
     settings.iter().any(|setting| sets(setting, kind))

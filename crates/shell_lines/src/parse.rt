@@ -6,24 +6,28 @@ ghost use Rattle.shell_lines.specs.Sized.{HasRecordSize};
 ghost use Rattle.shell_lines.specs.Grammar.{Spells, line_of, is_comment, first_unprintable};
 ghost use Rattle.std.specs.Str.{bytes_eq};
 ghost use Rattle.shell_lines.specs.Left.{words_left, end_of, placed, texts, Reads};
-ghost use Rattle.shell_lines.specs.Commands.{commands, create, create_form, get_form, created};
+ghost use Rattle.shell_lines.specs.Commands.{commands, create, create_form, load_key, load_form, get_form};
 ghost use Rattle.shell_lines.specs.Forms.{line_from, form_from, end_from};
 ghost use Rattle.shell_lines.specs.Reading.{word_from, a_name, a_property, property_of};
 
 use crate::line::{Line, LineStop, Word};
-use crate::option::parse_options;
-use crate::setting::{OptionKind, options_with};
+use crate::option::{is_set, parse_options};
+use crate::setting::{OptionKind, load_place, options_with};
 use crate::words::{PlacedWord, Words};
-use encryption_roots::{Options, Prop};
+use encryption_roots::Prop;
 use std::alloc::Global;
 
 /// The options of `create`.
-const CREATE_OPTIONS: [OptionKind; 4] = [
+const CREATE_OPTIONS: [OptionKind; 5] = [
     OptionKind::Encryption,
     OptionKind::KeyFormat,
     OptionKind::KeyLocation,
+    OptionKind::Iterations,
     OptionKind::RecordSize,
 ];
+
+/// The options of `load-key` with a name.
+const LOAD_OPTIONS: [OptionKind; 2] = [OptionKind::CheckOnly, OptionKind::LoadFrom];
 
 /// The line that these bytes spell, without its line feed, in a section of `inside` workers, or outside one where that is 0.
 ///
@@ -74,8 +78,7 @@ fn parse_command(
     if command.text == b"create".as_slice() {
         parse_create(alloc, words)
     } else if command.text == b"load-key".as_slice() {
-        let name = parse_name(alloc, &[b"-n", b"-L", b"-r", b"-a"], &mut words)?;
-        parse_end(Some(Line::LoadKey { name }), words)
+        parse_load(alloc, words)
     } else if command.text == b"unload-key".as_slice() {
         let name = parse_name(alloc, &[b"-r", b"-a"], &mut words)?;
         parse_end(Some(Line::UnloadKey { name }), words)
@@ -94,17 +97,27 @@ fn parse_create(alloc: Global, mut words: Words<'_>) -> Result<Line, LineStop>
 {
     let settings = parse_options(alloc, &CREATE_OPTIONS, &mut words)?;
     let name = parse_name(alloc, &[b"-o"], &mut words)?;
-    parse_end(created(name, options_with(settings)), words)
+    let opts = options_with(settings);
+    parse_end(Some(Line::Create { name, opts }), words)
 }
 
-/// A key in a format is built only from a file.
-fn created(name: Word, opts: Options) -> Option<Line>
-    ensures { result ≡ created name opts }
+/// `load-key`, `-n` and `-L LOC` or one of them or none, `NAME`
+fn parse_load(alloc: Global, mut words: Words<'_>) -> Result<Line, LineStop>
+    ensures { Spells result
+        (form_from (end_of words.entry) load_key.options load_form (words_left words.entry)) }
 {
-    if opts.format.is_some() && opts.place.is_none() {
-        return None;
-    }
-    Some(Line::Create { name, opts })
+    let settings = parse_options(alloc, &LOAD_OPTIONS, &mut words)?;
+    let name = parse_name(alloc, &[b"-n", b"-L", b"-r", b"-a"], &mut words)?;
+    let check_only = is_set(&settings, OptionKind::CheckOnly);
+    let place = load_place(settings);
+    parse_end(
+        Some(Line::LoadKey {
+            name,
+            check_only,
+            place,
+        }),
+        words,
+    )
 }
 
 /// `get PROP NAME`

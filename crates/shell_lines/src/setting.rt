@@ -1,8 +1,8 @@
 // The options of commands, and the words that spell them.
-ghost use Rattle.std.specs.Prelude.{◌≡◌, IfOk, MatchOption};
+ghost use Rattle.std.specs.Prelude.{◌≡◌, ◌≤◌, IfOk, MatchOption, length};
 ghost use Rattle.std.specs.declared.option.Option.TheVariants.{Some as Found, None as Missing};
 ghost use Rattle.std.specs.Option.{option_copied};
-ghost use Rattle.shell_lines.specs.Settings.{dash, key, kind_of, with_setting, behind, suite_value, format_value, place_value, record_size_value, key_value, setting_of, options_with};
+ghost use Rattle.shell_lines.specs.Settings.{dash, key, kind_of, with_setting, with_place, behind, decimal_of, number_of, location_of, suite_value, format_value, place_value, iterations_value, record_size_value, key_value, load_from, setting_of, options_with, load_place};
 
 use dataset_tree::{Format, Suite};
 use encryption_roots::{Location, Options, PathText};
@@ -17,8 +17,14 @@ pub(crate) enum OptionKind {
     KeyFormat,
     /// `-o keylocation=LOC`
     KeyLocation,
+    /// `-o pbkdf2iters=NUM`
+    Iterations,
     /// `-o recordsize=BYTES`
     RecordSize,
+    /// `-n`
+    CheckOnly,
+    /// `-L LOC`
+    LoadFrom,
 }
 
 impl OptionKind {
@@ -30,7 +36,10 @@ impl OptionKind {
             OptionKind::Encryption
             | OptionKind::KeyFormat
             | OptionKind::KeyLocation
+            | OptionKind::Iterations
             | OptionKind::RecordSize => b"-o",
+            OptionKind::CheckOnly => b"-n",
+            OptionKind::LoadFrom => b"-L",
         }
     }
 
@@ -42,7 +51,10 @@ impl OptionKind {
             OptionKind::Encryption => b"encryption",
             OptionKind::KeyFormat => b"keyformat",
             OptionKind::KeyLocation => b"keylocation",
+            OptionKind::Iterations => b"pbkdf2iters",
             OptionKind::RecordSize => b"recordsize",
+            OptionKind::CheckOnly => b"-n",
+            OptionKind::LoadFrom => b"-L",
         }
     }
 }
@@ -53,8 +65,14 @@ pub(crate) enum Setting {
     Encryption(Suite),
     KeyFormat(Format),
     KeyLocation(Location),
+    /// Of PBKDF2.
+    Iterations(u64),
     /// In bytes.
     RecordSize(u32),
+    /// The key is tested and not kept.
+    CheckOnly,
+    /// Where the key is fetched in place of the root's own location.
+    LoadFrom(Location),
 }
 
 impl Setting {
@@ -66,7 +84,10 @@ impl Setting {
             Setting::Encryption(_) => OptionKind::Encryption,
             Setting::KeyFormat(_) => OptionKind::KeyFormat,
             Setting::KeyLocation(_) => OptionKind::KeyLocation,
+            Setting::Iterations(_) => OptionKind::Iterations,
             Setting::RecordSize(_) => OptionKind::RecordSize,
+            Setting::CheckOnly => OptionKind::CheckOnly,
+            Setting::LoadFrom(_) => OptionKind::LoadFrom,
         }
     }
 
@@ -87,10 +108,25 @@ impl Setting {
                 place: Some(place),
                 ..options
             },
+            Setting::Iterations(count) => Options {
+                iters: Some(count),
+                ..options
+            },
             Setting::RecordSize(size) => Options {
                 block: Some(size),
                 ..options
             },
+            Setting::CheckOnly | Setting::LoadFrom(_) => options,
+        }
+    }
+
+    /// The location that `-L` sets, in place of this one.
+    fn put_place(self, place: Option<Location>) -> Option<Location>
+        ensures { result ≡ with_place place self }
+    {
+        match self {
+            Setting::LoadFrom(other) => Some(other),
+            _ => place,
         }
     }
 }
@@ -104,12 +140,25 @@ pub(crate) fn parse_setting(
     ensures { IfOk result (λ setting. setting ≡ setting_of first.now (option_copied value.entry)) }
 {
     let Some(value) = value else {
-        return Ok(None);
+        return Ok(parse_lone(first));
     };
     if first == b"-o".as_slice() {
         return parse_key_value(alloc, value);
     }
+    if first == b"-L".as_slice() {
+        return load_from(alloc, value);
+    }
     Ok(None)
+}
+
+/// The setting that a word spells without another one behind it.
+fn parse_lone(word: &[u8]) -> Option<Setting>
+    ensures { result ≡ setting_of word.now Missing }
+{
+    if word == b"-n".as_slice() {
+        return Some(Setting::CheckOnly);
+    }
+    None
 }
 
 /// The setting that a word KEY=VALUE spells.
@@ -124,6 +173,9 @@ fn parse_key_value(alloc: Global, word: &[u8]) -> Result<Option<Setting>, AllocE
     }
     if let Some(value) = behind(b"keylocation=", word) {
         return place_value(alloc, value);
+    }
+    if let Some(value) = behind(b"pbkdf2iters=", word) {
+        return Ok(iterations_value(value));
     }
     if let Some(value) = behind(b"recordsize=", word) {
         return Ok(record_size_value(value));
@@ -159,19 +211,67 @@ fn format_value(value: &[u8]) -> Option<Setting>
     if value == b"raw".as_slice() {
         return Some(Setting::KeyFormat(Format::Raw));
     }
+    if value == b"hex".as_slice() {
+        return Some(Setting::KeyFormat(Format::Hex));
+    }
+    if value == b"passphrase".as_slice() {
+        return Some(Setting::KeyFormat(Format::Passphrase));
+    }
     None
 }
 
 fn place_value(alloc: Global, value: &[u8]) -> Result<Option<Setting>, AllocError>
     ensures { IfOk result (λ setting. setting ≡ place_value value.now) }
 {
-    let Some(path) = behind(b"file://", value) else {
+    Ok(location_of(alloc, value)?.map(Setting::KeyLocation))
+}
+
+fn load_from(alloc: Global, word: &[u8]) -> Result<Option<Setting>, AllocError>
+    ensures { IfOk result (λ setting. setting ≡ load_from word.now) }
+{
+    Ok(location_of(alloc, word)?.map(Setting::LoadFrom))
+}
+
+/// The location that a word spells: `prompt`, or `file://` and a path.
+fn location_of(alloc: Global, word: &[u8]) -> Result<Option<Location>, AllocError>
+    ensures { IfOk result (λ location. location ≡ location_of word.now) }
+{
+    if word == b"prompt".as_slice() {
+        return Ok(Some(Location::Prompt));
+    }
+    let Some(path) = behind(b"file://", word) else {
         return Ok(None);
     };
-    let Some(path) = PathText::parse(alloc, path)? else {
-        return Ok(None);
-    };
-    Ok(Some(Setting::KeyLocation(Location::File(path))))
+    Ok(PathText::parse(alloc, path)?.map(Location::File))
+}
+
+fn iterations_value(value: &[u8]) -> Option<Setting>
+    ensures { result ≡ iterations_value value.now }
+{
+    number_of(value).map(Setting::Iterations)
+}
+
+/// The number that 1 to 10 decimal digits write.
+fn number_of(text: &[u8]) -> Option<u64>
+    ensures { result ≡ number_of text.now }
+{
+    if text.is_empty() || text.len() > 10 {
+        return None;
+    }
+    decimal_of(text)
+}
+
+/// The number that digits write.
+fn decimal_of(text: &[u8]) -> Option<u64>
+    requires { length text.now ≤ 10 }
+    ensures { result ≡ decimal_of text.now }
+{
+    let mut number = 0;
+    for byte in text {
+        let digit = char::from(*byte).to_digit(10)?;
+        number = number * 10 + u64::from(digit);
+    }
+    Some(number)
 }
 
 fn record_size_value(value: &[u8]) -> Option<Setting>
@@ -216,4 +316,15 @@ pub(crate) fn options_with(settings: Vec<Setting>) -> Options
         options = setting.put_into(options);
     }
     options
+}
+
+/// The location that `-L` sets, where one of these settings does.
+pub(crate) fn load_place(settings: Vec<Setting>) -> Option<Location>
+    ensures { result ≡ load_place settings.items }
+{
+    let mut place = None;
+    for setting in settings {
+        place = setting.put_place(place);
+    }
+    place
 }

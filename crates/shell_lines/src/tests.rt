@@ -1,13 +1,13 @@
 ghost use Rattle.std.specs.Prelude.{◌<◌, ◌^◌, length};
 
 use super::*;
-use dataset_tree::Suite;
-use encryption_roots::{Location, Options};
+use dataset_tree::{Format, Suite};
+use encryption_roots::Location;
 use std::alloc::Global;
 use std::test::Fail;
 
 /// Lines that aren't in the language, and the offset at which each is bad.
-const BAD_LINES: [(&[u8], u32); 28] = [
+const BAD_LINES: [(&[u8], u32); 35] = [
     (b"frob tank", 0),
     (b" #x", 1),
     (b"create  ", 8),
@@ -17,17 +17,24 @@ const BAD_LINES: [(&[u8], u32); 28] = [
     (b"create -o encryption=on -o encryption=on a", 27),
     (b"create -o recordsize=0512 a", 10),
     (b"create -o keylocation=file://k a", 10),
-    (b"create -o keyformat=raw a", 25),
-    (b"create -o keyformat=raw a b", 26),
+    (b"create -o keyformat=Hex a", 10),
+    (b"create -o keyformat=hex a b", 26),
+    (b"create -o pbkdf2iters= a", 10),
+    (b"create -o pbkdf2iters=+1 a", 10),
+    (b"create -o pbkdf2iters=10000000000 a", 10),
     (
-        b"create -o encryption=on -o keyformat=raw -o keylocation=file:///k -o recordsize=512 -o a",
-        84,
+        b"create -o encryption=on -o keyformat=raw -o keylocation=prompt -o recordsize=512 -o pbkdf2iters=1 -o a",
+        98,
     ),
     (b"load-key", 8),
     (b"load-key a b", 11),
-    (b"load-key -n tank", 9),
+    (b"load-key -n", 11),
+    (b"load-key -n -n tank", 12),
+    (b"load-key tank -n", 14),
+    (b"load-key -L", 11),
+    (b"load-key -L x tank", 12),
+    (b"load-key -L prompt -L prompt tank", 19),
     (b"load-key -a", 9),
-    (b"load-key -L x", 9),
     (b"unload-key -r tank", 11),
     (b"unload-key -a", 11),
     (b"unload-key -n x", 14),
@@ -54,7 +61,7 @@ fn bad_at(alloc: Global, bytes: &[u8], inside: u32) -> Option<u32>
 #[test]
 fn lines_are_bad_at_the_first_wrong_place(rt: HostRuntime) -> Result<(), Fail> {
     for (bytes, at) in BAD_LINES {
-        assert!(rt; bytes.len() < 100);
+        assert!(rt; bytes.len() < 200);
         assert_eq!(rt; bad_at(rt.alloc(), bytes, 0), Some(at), "at {bytes:?}");
     }
     assert_eq!(rt; bad_at(rt.alloc(), b" list", 2), Some(0));
@@ -62,26 +69,57 @@ fn lines_are_bad_at_the_first_wrong_place(rt: HostRuntime) -> Result<(), Fail> {
     Ok(())
 }
 
-// The path of a key file, without bytes where there is none.
-fn path_of(opts: &Options) -> &[u8] {
-    match &opts.place {
+// Where a key is fetched, as a word says it but for `file://`.
+fn place_of(place: &Option<Location>) -> &[u8] {
+    match place {
         Some(Location::File(path)) => path.as_bytes(),
-        _ => b"",
+        Some(Location::Prompt) => b"prompt",
+        None => b"",
     }
 }
 
 #[test]
 fn options_stand_in_any_order(rt: HostRuntime) -> Result<(), Fail> {
     let bytes =
-        b" create -o recordsize=512 -o keylocation=file:///k  -o encryption=aes-192-gcm -o keyformat=raw -n ";
+        b" create -o recordsize=512 -o pbkdf2iters=0000100000 -o keylocation=file:///k  -o encryption=aes-192-gcm -o keyformat=hex -n ";
     let Line::Create { name, opts } = parse_line(rt.alloc(), bytes, 0)? else {
         return Err("no create".into());
     };
     assert_eq!(rt; name.as_bytes(), b"-n".as_slice());
     assert_eq!(rt; opts.suite, Some(Suite::Aes192Gcm));
-    assert!(rt; opts.format.is_some());
-    assert_eq!(rt; path_of(&opts), b"/k".as_slice());
+    assert_eq!(rt; opts.format, Some(Format::Hex));
+    assert_eq!(rt; place_of(&opts.place), b"/k".as_slice());
+    assert_eq!(rt; opts.iters, Some(100_000));
     assert_eq!(rt; opts.block, Some(512));
+    Ok(())
+}
+
+/// Lines that load a key: whether it is only tested, and where it is fetched.
+const LOADS: [(&[u8], bool, &[u8]); 5] = [
+    (b"load-key t", false, b""),
+    (b"load-key -n t", true, b""),
+    (b"load-key -L prompt t", false, b"prompt"),
+    (b"load-key -n -L file:///k t", true, b"/k"),
+    (b"load-key -L file:///k -n t", true, b"/k"),
+];
+
+#[test]
+fn a_key_is_loaded_as_the_options_say(rt: HostRuntime) -> Result<(), Fail> {
+    for (bytes, only_tested, fetched) in LOADS {
+        assert!(rt; bytes.len() < 100);
+        let line = parse_line(rt.alloc(), bytes, 0)?;
+        let Line::LoadKey {
+            name,
+            check_only,
+            place,
+        } = line
+        else {
+            return Err("no load-key".into());
+        };
+        assert_eq!(rt; name.as_bytes(), b"t".as_slice());
+        assert_eq!(rt; check_only, only_tested, "at {bytes:?}");
+        assert_eq!(rt; place_of(&place), fetched, "at {bytes:?}");
+    }
     Ok(())
 }
 
@@ -100,6 +138,7 @@ fn each_command_has_a_line(rt: HostRuntime) -> Result<(), Fail> {
     assert!(rt; matches!(parse_line(alloc, b"get encryption a", 0)?, Line::Get { .. }));
     assert!(rt; matches!(parse_line(alloc, b"  list ", 0)?, Line::List));
     bad_at_the_first_wrong_word();
+    options_say_what_they_spell();
     record_sizes_are_in_form();
     words_are_the_longest_runs();
     Ok(())

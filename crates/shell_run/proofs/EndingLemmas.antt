@@ -1,13 +1,12 @@
 -- What a run has done, once its last line is written.
 use Rattle.std.proofs.Common.{◌≡◌, ◌≢◌, ◌⊎◌, inl, inr, ⊎_elim, ℕ, zero, suc, ◌+◌, ◌*◌, ◌≤◌, Bool, true, false, ◌||◌, List, [], ◌∷◌, ◌++◌, length, take, drop, if◌then◌else◌, Option, Some, None, IfSome, refl, ap, sym, ◌∙◌, subst, append_assoc, arith, length-append, length-drop}
-use Rattle.std.specs.Option.{option_and_then, option_map}
+use Rattle.std.specs.Option.{option_map}
 use Rattle.std.specs.List.{AllByRecursion}
 use Rattle.std.proofs.lemmas.List.{append-nil}
 use Rattle.std.proofs.lemmas.Bool.Decides.{nat_tests}
 use Rattle.edge_io.specs.Counts.{one_more, raised}
 use Rattle.edge_io.specs.Entropy.{is_short}
 use Rattle.edge_io.specs.Faults.{Rose}
-use Rattle.edge_io.specs.Told.{unread}
 use Rattle.key_machine.specs.Plain.{no_keys}
 use Rattle.shell_run.specs.declared.ending.Ending.{Ending}
 use Rattle.shell_run.specs.declared.ending.Ending.TheVariants.{Done, Usage, BadLine, ReadFault, WriteFault, NoMemory}
@@ -17,6 +16,7 @@ use Rattle.shell_run.specs.Endings.{status_of, closing_line, SourceFaults, SinkF
 use Rattle.shell_run.specs.Outer.{Outer, Takes, FailWhereListedOrShort, failed_count}
 use Rattle.shell_run.specs.Progress.{Taken, Ends as EndsSo, RunsFrom}
 use Rattle.shell_run.specs.Ran.{IsAnswered, IsFront, Came, Closes, Took, Ran, last_line, WroteLast}
+use Rattle.shell_run.specs.Script.{script_of}
 use Rattle.shell_run.specs.Takings.{Taking, failures, is_fetch, is_fill, fetches_of, fills_of}
 use Rattle.shell_run.specs.Transcript.{World, told_world, Run, Turn, replies_of, made_in, output_of, transcript, told_transcript}
 use Rattle.shell_run.proofs.CommandLemmas.{front_nil}
@@ -24,24 +24,11 @@ use Rattle.shell_run.proofs.RunLemmas.{flat_map_both, unanswered}
 use Rattle.shell_run.proofs.TakingLemmas.{agrees_failures, outcomes_both}
 use Rattle.shell_run.proofs.WritingLemmas.{Took-after, Took-from_Appends}
 
--- where a run begins at the reader's first byte
-pub all_read_where_told : (e : Ending) (told left : Option (List ℕ)) (reader rest : List ℕ) → reader ≡ [] → (e ≡ Done → IfSome (unread reader told) (λ bytes. unread rest left ≡ Some []))
-    → e ≡ Done → IfSome told (λ bytes. left ≡ Some [])
-all_read_where_told e None left reader rest empty end done = tt
-all_read_where_told e (Some bytes) None reader rest empty end done = absurd (let none : None ≡ Some [] = end done in cc)
-all_read_where_told e (Some bytes) (Some more) [] rest empty end done = let all : Some (rest ++ more) ≡ Some [] = end done in ap (λ xs. Some xs) (second rest more (let same : rest ++ more ≡ [] = cc in same)) where
-  second : (xs ys : List ℕ) → xs ++ ys ≡ [] → ys ≡ []
-  second [] ys e = e
-  second (x ∷ xs) ys e = absurd (cc)
-all_read_where_told e (Some bytes) (Some more) (byte ∷ reader) rest empty end done = absurd (cc)
-
 -- ---- the run that is told
 
-told_run : (script : Option (List ℕ)) (world : Option World) (run : List ℕ → World → Run) (P : Run → Type 0) → IfSome script (λ bytes. IfSome world (λ w. P (run bytes w)))
-    → IfSome (option_and_then (λ (bytes : List ℕ). option_map (run bytes) world) script) P
-told_run None world run P holds = tt
-told_run (Some bytes) None run P holds = tt
-told_run (Some bytes) (Some w) run P holds = holds
+told_run : (world : Option World) (run : World → Run) (P : Run → Type 0) → IfSome world (λ w. P (run w)) → IfSome (option_map run world) P
+told_run None run P holds = tt
+told_run (Some w) run P holds = holds
 
 -- ---- a run that is closed otherwise than it ended
 
@@ -52,9 +39,10 @@ came_without_memory run replies made c = record {
   whole = c.whole;
   answered = λ answered. absurd (unanswered 12 (omega arith) answered);
   replied = λ other. c.replied (λ e. absurd (omega (arith, e)));
-  taken = λ other memory. absurd (memory refl);
+  taken = λ fault other memory. absurd (memory refl);
   cut = λ five. absurd (omega (arith, five));
-  stopped = λ twelve. ([], c.taken (λ e. absurd (omega (arith, e))) (λ e. absurd (omega (arith, e))) ∙ sym (append-nil (made_in c.turns)), front_nil (made_in (take 1 c.later)));
+  unread = λ four. absurd (omega (arith, four));
+  stopped = λ twelve. ([], c.taken (λ e. absurd (omega (arith, e))) (λ e. absurd (omega (arith, e))) (λ e. absurd (omega (arith, e))) ∙ sym (append-nil (made_in c.turns)), front_nil (made_in (take 1 c.later)));
 }
 
 came_closed : (e closed : Ending) (run : Run) (replies : List ℕ) (made : List Taking) → ClosesAs e closed → Came run (status_of e) replies made → Came run (status_of closed) replies made
@@ -188,13 +176,17 @@ made_front NoMemory run replies made came =
       made_both came.turns (take 1 came.later) ∙ ap (λ xs. made_in came.turns ++ xs) there.2.1 ∙ sym (append_assoc (made_in came.turns) there.0 there.2.0) ∙ ap (λ xs. xs ++ there.2.0) (sym there.1),
     )
 made_front Done run replies made came =
-    front_of_run run came.turns came.later made came.whole (front_of_turns came.turns came.later made (came.taken (λ e. absurd (omega (arith, e))) (λ e. absurd (omega (arith, e)))))
+    front_of_run run came.turns came.later made came.whole (front_of_turns came.turns came.later made (came.taken (λ e. absurd (omega (arith, e))) (λ e. absurd (omega (arith, e))) (λ e. absurd (omega (arith, e)))))
 made_front Usage run replies made came =
-    front_of_run run came.turns came.later made came.whole (front_of_turns came.turns came.later made (came.taken (λ e. absurd (omega (arith, e))) (λ e. absurd (omega (arith, e)))))
+    front_of_run run came.turns came.later made came.whole (front_of_turns came.turns came.later made (came.taken (λ e. absurd (omega (arith, e))) (λ e. absurd (omega (arith, e))) (λ e. absurd (omega (arith, e)))))
 made_front ReadFault run replies made came =
-    front_of_run run came.turns came.later made came.whole (front_of_turns came.turns came.later made (came.taken (λ e. absurd (omega (arith, e))) (λ e. absurd (omega (arith, e)))))
+    let there = came.unread refl in
+    front_of_run run came.turns came.later made came.whole (
+      there.2.0,
+      made_both came.turns (take 1 came.later) ∙ ap (λ xs. made_in came.turns ++ xs) there.2.1 ∙ sym (append_assoc (made_in came.turns) there.0 there.2.0) ∙ ap (λ xs. xs ++ there.2.0) (sym there.1),
+    )
 made_front (BadLine number at) run replies made came =
-    front_of_run run came.turns came.later made came.whole (front_of_turns came.turns came.later made (came.taken (λ e. absurd (omega (arith, e))) (λ e. absurd (omega (arith, e)))))
+    front_of_run run came.turns came.later made came.whole (front_of_turns came.turns came.later made (came.taken (λ e. absurd (omega (arith, e))) (λ e. absurd (omega (arith, e))) (λ e. absurd (omega (arith, e)))))
 
 -- ---- where no fill is to fail and there are bytes for each
 
@@ -303,18 +295,18 @@ ran_told (Some run) e closed t0 t1 t2 f0 f1 f2 old new made takes found ends clo
       enough = enough_told made (made_in run.turns) old new.found (made_front closed run ends.replies made came) found takes.fill_fails;
     }
 
-pub same_names : (a b d x y z : ℕ) → a ∷ b ∷ d ∷ [] ≡ x ∷ y ∷ z ∷ [] → (a ≡ x) × (b ≡ y) × (d ≡ z)
-same_names a b d x y z same = (cc, cc, cc)
+pub same_names : (a b d e x y z w : ℕ) → a ∷ b ∷ d ∷ e ∷ [] ≡ x ∷ y ∷ z ∷ w ∷ [] → (a ≡ x) × (b ≡ y) × (d ≡ z) × (e ≡ w)
+same_names a b d e x y z w same = (cc, cc, cc, cc)
 
 pub ran : {W : Type 0} (words : List W) (script : Option (List ℕ)) (e closed : Ending) (t0 t1 t2 : Option (List ℕ)) (f0 f1 f2 : ℕ) (old new : Outer) → old.found ≡ []
-    → RunsFrom (λ line. line ≤ 1048576) old new (λ found made. IfSome script (λ bytes. IfSome (told_world no_keys old) (λ w. EndsSo e (transcript words bytes found w) made t0 t1)))
+    → RunsFrom (λ line. line ≤ 1048576) old new (λ found made. IfSome (told_world no_keys old (script_of 1 script)) (λ w. EndsSo e (transcript words found w) made t0 t1))
     → ClosesAs e closed → SinkFaults (Some e) f0 f1 → WroteLast (closing_line closed) t1 t2 f1 f2 → (closing_line closed ≡ [] → (f2 ≡ f1) × (t2 ≡ t1))
     → Ran (told_transcript words script old new.found) (status_of closed) (record { taken = t0; faults = f0 }) (record { taken = t2; faults = f2 }) old new
 ran words script e closed t0 t1 t2 f0 f1 f2 old new empty runs closes_as sink wrote kept =
     let found : new.found ≡ failures runs.made = runs.takes.found ∙ ap (λ es. es ++ failures runs.made) empty in
     let agrees : Agrees new.found runs.made = subst (λ (es : List FoundEntry). Agrees es runs.made) (sym found) (agrees_failures runs.made runs.takes.order) in
     ran_told (told_transcript words script old new.found) e closed t0 t1 t2 f0 f1 f2 old new runs.made runs.takes found
-    (told_run script (told_world no_keys old) (λ bytes w. transcript words bytes new.found w) (λ run. EndsSo e run runs.made t0 t1) (runs.said new.found agrees)) closes_as sink wrote kept
+    (told_run (told_world no_keys old (script_of 1 script)) (transcript words new.found) (λ run. EndsSo e run runs.made t0 t1) (runs.said new.found agrees)) closes_as sink wrote kept
 
 -- ---- what a status says of the ending
 
@@ -350,3 +342,11 @@ completes (BadLine number at) closed s0 s1 o0 o1 o2 closes_as source sink later 
 completes ReadFault closed s0 s1 o0 o1 o2 closes_as source sink later read written = absurd (read source.1)
 completes WriteFault closed s0 s1 o0 o1 o2 closes_as source sink later read written = absurd (written (omega (arith, sink.1, later)))
 completes NoMemory closed s0 s1 o0 o1 o2 closes_as source sink later read written = inr (ap status_of closes_as)
+
+pub statuses : (e : Ending) → IsAnswered (status_of e) ⊎ (status_of e ≡ 4) ⊎ (status_of e ≡ 5) ⊎ (status_of e ≡ 12)
+statuses Done = inl (inl refl)
+statuses Usage = inl (inr (inl refl))
+statuses (BadLine number at) = inl (inr (inr refl))
+statuses ReadFault = inr (inl refl)
+statuses WriteFault = inr (inr (inl refl))
+statuses NoMemory = inr (inr (inr refl))

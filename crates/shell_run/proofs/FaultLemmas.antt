@@ -1,14 +1,16 @@
 -- The refusals for a fetch and for a seed that failed come of the kit alone.
-use Rattle.std.proofs.Common.{◌≡◌, ◌≢◌, ◌⊎◌, ⊎_elim, inl, inr, ℕ, ◌≤◌, Bool, true, false, List, [], ◌∷◌, length, nat_lt, Option, Some, None, Result, Ok, Err, is_some, refl, ap, sym, ◌∙◌, subst, arith}
+use Rattle.std.proofs.Common.{◌≡◌, ◌≢◌, ◌⊎◌, ⊎_elim, inl, inr, ℕ, ◌≤◌, Bool, true, false, ◌||◌, ◌==◌, List, [], ◌∷◌, length, nat_lt, Option, Some, None, Result, Ok, Err, is_some, refl, ap, sym, ◌∙◌, subst, arith}
 use Rattle.std.proofs.lemmas.Bool.{cases_Bool}
 use Rattle.std.specs.Prelude.{unwrap_or, if◌then◌else◌}
 use Rattle.std.specs.List.{AllByRecursion}
-use Rattle.std.specs.Option.{option_map}
+use Rattle.std.specs.Char.{is_ascii_hexdigit}
+use Rattle.std.specs.List.{prefix_len}
+use Rattle.std.specs.Option.{option_map, option_or}
 use Rattle.dataset_tree.specs.declared.kinds.Format.{Format}
 use Rattle.dataset_tree.specs.declared.kinds.Format.TheVariants.{Raw, Hex, Passphrase}
 use Rattle.dataset_tree.specs.declared.refusal.Refusal.{Refusal}
-use Rattle.dataset_tree.specs.declared.refusal.Refusal.TheVariants.{KeyFault, EntropyFault, KeyFileMissing, WrongKey, BadMaterial, BadOptions, Busy, NoSuch}
-use Rattle.dataset_tree.specs.declared.refusal.MaterialFault.TheVariants.{Short, Long}
+use Rattle.dataset_tree.specs.declared.refusal.Refusal.TheVariants.{KeyFault, EntropyFault, KeyFileMissing, WrongKey, BadIters, BadMaterial, Busy, NoSuch}
+use Rattle.dataset_tree.specs.declared.refusal.MaterialFault.TheVariants.{Short, Long, Hex as NoDigit}
 use Rattle.dataset_tree.specs.Refusal.{number_of, Gives}
 use Rattle.encryption_roots.specs.declared.props.Options.{Options}
 use Rattle.encryption_roots.specs.declared.props.Props.{Props}
@@ -23,13 +25,14 @@ use Rattle.encryption_roots.specs.declared.command.KeyCmd.{KeyCmd}
 use Rattle.encryption_roots.specs.declared.command.KeyCmd.TheVariants as commands
 use Rattle.encryption_roots.specs.ById.{at_id}
 use Rattle.dataset_tree.specs.Tree.{id_named}
-use Rattle.key_ciphers.specs.Ciphers.{ciphers, wrapping_key}
+use Rattle.key_ciphers.specs.Ciphers.{ciphers}
+use Rattle.key_formats.specs.WrappingKey.{length_fault, material_fault, material_key, unless_faulty, without_line_feed, wkey}
 use Rattle.key_machine.specs.Create.{makes_root, makes_encrypted, parent_row, parent_key, create_cases, create_key, told_encrypted, new_format, new_iters, new_salt}
 use Rattle.key_machine.specs.Fair.{WasAsked, SeedWasAsked, Suffices}
 use Rattle.key_machine.specs.Get.{get_cases}
 use Rattle.key_machine.specs.Load.{load_cases, told_load, told_load_of, told_load_with}
 use Rattle.key_machine.specs.Plain.{Plain}
-use Rattle.key_machine.specs.Refusals.{first_of, first_refusal, not_built}
+use Rattle.key_machine.specs.Refusals.{first_of, first_refusal}
 use Rattle.key_machine.specs.Reply.{Reply, Refused, Stepped, unless_refused}
 use Rattle.key_machine.specs.Step.{refusal_of, wanted, told, material_refusal, target, carried_out, in_use, key_step}
 use Rattle.key_machine.specs.Told.{Told, nothing_told, key_of, seed_of}
@@ -40,7 +43,7 @@ use Rattle.dataset_tree.specs.declared.refusal.Stop.{Stop}
 use Rattle.dataset_tree.specs.declared.refusal.Stop.TheVariants as stops
 use Rattle.edge_io.specs.Faults.{Rose}
 use Rattle.shell_run.specs.declared.command.Shown.{Shown}
-use Rattle.shell_run.specs.Answers.{HasWanted, Replies}
+use Rattle.shell_run.specs.Answers.{HasWanted, IsOfLine, Replies, settled}
 
 -- a refusal for a taking that failed, by its number
 pub record IsTaking (why : Refusal) : Type 0 where
@@ -70,52 +73,46 @@ module _ (why : Refusal) (taking : IsTaking why) where
   high : (other : Refusal) → 14 ≤ number_of other → other ≢ why
   high other above = apart other why (number_of other) refl (inr above) taking
 
-  unbuilt_apart : Some not_built ≡ Some why → ⊥
-  unbuilt_apart found = high not_built (omega arith) (cc)
-
-  state_apart : (p : Plain) (command : KeyCmd) → refusal_of p command ≡ Some why → ⊥
-  state_apart p (commands.Create name opts) found =
+  state_apart : (p : Plain) (command : KeyCmd) → IsOfLine command → refusal_of p command ≡ Some why → ⊥
+  state_apart p (commands.Create name opts) of_line found =
       not_first why (create_cases p name opts)
       (low _ (omega arith), (low _ (omega arith), (high _ (omega arith), (high _ (omega arith), (low _ (omega arith), (high _ (omega arith), (high _ (omega arith), (high _ (omega arith), tt)))))))) found
-  state_apart p (commands.Load name check_only place) found =
+  state_apart p (commands.Load name check_only place) of_line found =
       not_first why (load_cases p name check_only) (low _ (omega arith), (low _ (omega arith), (low _ (omega arith), (low _ (omega arith), tt)))) found
-  state_apart p (commands.Unload name) found = not_first why (unload_cases p name) (low _ (omega arith), (low _ (omega arith), (low _ (omega arith), (low _ (omega arith), tt)))) found
-  state_apart p (commands.Get name prop) found = not_first why (get_cases p name) (low _ (omega arith), tt) found
-  state_apart p (commands.Change name opts load_first) found = unbuilt_apart found
-  state_apart p (commands.Inherit name load_first) found = unbuilt_apart found
-  state_apart p (commands.Mount name) found = unbuilt_apart found
-  state_apart p (commands.Unmount name) found = unbuilt_apart found
-  state_apart p (commands.Clone from name) found = unbuilt_apart found
-  state_apart p (commands.Receive name props wrapped block) found = unbuilt_apart found
-  state_apart p (commands.Destroy name snaps) found = unbuilt_apart found
+  state_apart p (commands.Unload name) of_line found = not_first why (unload_cases p name) (low _ (omega arith), (low _ (omega arith), (low _ (omega arith), (low _ (omega arith), tt)))) found
+  state_apart p (commands.Get name prop) of_line found = not_first why (get_cases p name) (low _ (omega arith), tt) found
+  state_apart p (commands.Change name opts load_first) of_line found = absurd of_line
+  state_apart p (commands.Inherit name load_first) of_line found = absurd of_line
+  state_apart p (commands.Mount name) of_line found = absurd of_line
+  state_apart p (commands.Unmount name) of_line found = absurd of_line
+  state_apart p (commands.Clone from name) of_line found = absurd of_line
+  state_apart p (commands.Receive name props wrapped block) of_line found = absurd of_line
+  state_apart p (commands.Destroy name snaps) of_line found = absurd of_line
 
   -- ---- what an accepted command answers
 
   no_such_apart : Refused NoSuch ≡ Refused why → ⊥
   no_such_apart refused = low NoSuch (omega arith) (cc)
 
-  not_built_apart : Refused not_built ≡ Refused why → ⊥
-  not_built_apart refused = high not_built (omega arith) (cc)
-
   unloaded_apart : (p : Plain) (root : ℕ) (busy : Option InUse) → (unloaded p root busy).reply ≡ Refused why → ⊥
   unloaded_apart p root None refused = cc
   unloaded_apart p root (Some busy) refused = high (Busy busy.dataset busy.count) (omega arith) (cc)
 
-  carried_apart : (p : Plain) (command : KeyCmd) (facts : Told) (busy : Option InUse) (at : Option ℕ) → (carried_out p command facts busy at).reply ≡ Refused why → ⊥
-  carried_apart p (commands.Create name opts) facts busy at refused = cc
-  carried_apart p (commands.Load name check_only place) facts busy None refused = no_such_apart refused
-  carried_apart p (commands.Load name check_only place) facts busy (Some root) refused = cc
-  carried_apart p (commands.Unload name) facts busy None refused = no_such_apart refused
-  carried_apart p (commands.Unload name) facts busy (Some root) refused = unloaded_apart p root busy refused
-  carried_apart p (commands.Get name prop) facts busy None refused = no_such_apart refused
-  carried_apart p (commands.Get name prop) facts busy (Some id) refused = cc
-  carried_apart p (commands.Change name opts load_first) facts busy at refused = not_built_apart refused
-  carried_apart p (commands.Inherit name load_first) facts busy at refused = not_built_apart refused
-  carried_apart p (commands.Mount name) facts busy at refused = not_built_apart refused
-  carried_apart p (commands.Unmount name) facts busy at refused = not_built_apart refused
-  carried_apart p (commands.Clone from name) facts busy at refused = not_built_apart refused
-  carried_apart p (commands.Receive name props wrapped block) facts busy at refused = not_built_apart refused
-  carried_apart p (commands.Destroy name snaps) facts busy at refused = not_built_apart refused
+  carried_apart : (p : Plain) (command : KeyCmd) → IsOfLine command → (facts : Told) (busy : Option InUse) (at : Option ℕ) → (carried_out p command facts busy at).reply ≡ Refused why → ⊥
+  carried_apart p (commands.Create name opts) of_line facts busy at refused = cc
+  carried_apart p (commands.Load name check_only place) of_line facts busy None refused = no_such_apart refused
+  carried_apart p (commands.Load name check_only place) of_line facts busy (Some root) refused = cc
+  carried_apart p (commands.Unload name) of_line facts busy None refused = no_such_apart refused
+  carried_apart p (commands.Unload name) of_line facts busy (Some root) refused = unloaded_apart p root busy refused
+  carried_apart p (commands.Get name prop) of_line facts busy None refused = no_such_apart refused
+  carried_apart p (commands.Get name prop) of_line facts busy (Some id) refused = cc
+  carried_apart p (commands.Change name opts load_first) of_line facts busy at refused = absurd of_line
+  carried_apart p (commands.Inherit name load_first) of_line facts busy at refused = absurd of_line
+  carried_apart p (commands.Mount name) of_line facts busy at refused = absurd of_line
+  carried_apart p (commands.Unmount name) of_line facts busy at refused = absurd of_line
+  carried_apart p (commands.Clone from name) of_line facts busy at refused = absurd of_line
+  carried_apart p (commands.Receive name props wrapped block) of_line facts busy at refused = absurd of_line
+  carried_apart p (commands.Destroy name snaps) of_line facts busy at refused = absurd of_line
 
   refused_by_either : (p : Plain) (refusal : Option Refusal) (done : Stepped) → (unless_refused p refusal done).reply ≡ Refused why → (refusal ≡ Some why) ⊎ (done.reply ≡ Refused why)
   refused_by_either p None done refused = inr refused
@@ -130,38 +127,62 @@ module _ (why : Refusal) (taking : IsTaking why) where
   create_material_is (Some first) found = found
   create_material_is None found = absurd (cc)
 
-  material_is : (p : Plain) (command : KeyCmd) (facts : Told) → material_refusal p command facts ≡ Some why → facts.fault ≡ Some why
-  material_is p (commands.Create name opts) facts found = create_material_is facts.fault found
-  material_is p (commands.Load name check_only place) facts found = load_material_is facts.fault facts.wrong found
-  material_is p (commands.Unload name) facts found = absurd (cc)
-  material_is p (commands.Get name prop) facts found = absurd (cc)
-  material_is p (commands.Change name opts load_first) facts found = absurd (cc)
-  material_is p (commands.Inherit name load_first) facts found = absurd (cc)
-  material_is p (commands.Mount name) facts found = absurd (cc)
-  material_is p (commands.Unmount name) facts found = absurd (cc)
-  material_is p (commands.Clone from name) facts found = absurd (cc)
-  material_is p (commands.Receive name props wrapped block) facts found = absurd (cc)
-  material_is p (commands.Destroy name snaps) facts found = absurd (cc)
+  material_is : (p : Plain) (command : KeyCmd) → IsOfLine command → (facts : Told) → material_refusal p command facts ≡ Some why → facts.fault ≡ Some why
+  material_is p (commands.Create name opts) of_line facts found = create_material_is facts.fault found
+  material_is p (commands.Load name check_only place) of_line facts found = load_material_is facts.fault facts.wrong found
+  material_is p (commands.Unload name) of_line facts found = absurd (cc)
+  material_is p (commands.Get name prop) of_line facts found = absurd (cc)
+  material_is p (commands.Change name opts load_first) of_line facts found = absurd of_line
+  material_is p (commands.Inherit name load_first) of_line facts found = absurd of_line
+  material_is p (commands.Mount name) of_line facts found = absurd of_line
+  material_is p (commands.Unmount name) of_line facts found = absurd of_line
+  material_is p (commands.Clone from name) of_line facts found = absurd of_line
+  material_is p (commands.Receive name props wrapped block) of_line facts found = absurd of_line
+  material_is p (commands.Destroy name snaps) of_line facts found = absurd of_line
 
   -- a step that answers it was told it
-  told_fault : (p : Plain) (command : KeyCmd) (facts : Told) → (key_step p command facts).reply ≡ Refused why → facts.fault ≡ Some why
-  told_fault p command facts refused =
+  told_fault : (p : Plain) (command : KeyCmd) → IsOfLine command → (facts : Told) → (key_step p command facts).reply ≡ Refused why → facts.fault ≡ Some why
+  told_fault p command of_line facts refused =
       let done : Stepped = carried_out p command facts (in_use p command) (target p command) in
-      ⊎_elim (λ state. absurd (state_apart p command state))
-      (λ later. ⊎_elim (λ material. material_is p command facts material) (λ carried. absurd (carried_apart p command facts (in_use p command) (target p command) carried))
+      ⊎_elim (λ state. absurd (state_apart p command of_line state))
+      (λ later. ⊎_elim (λ material. material_is p command of_line facts material) (λ carried. absurd (carried_apart p command of_line facts (in_use p command) (target p command) carried))
       (refused_by_either p (material_refusal p command facts) done later))
       (refused_by_either p (refusal_of p command) (unless_refused p (material_refusal p command facts) done) refused)
 
   -- ---- what a kit tells
 
-  wrapping_apart : (format : Format) (material : List ℕ) (iters salt : ℕ) → wrapping_key format material iters salt ≡ Err why → ⊥
-  wrapping_apart Raw material iters salt told =
-      ⊎_elim (λ (short : nat_lt (length material) 32 ≡ true). low (BadMaterial Short) (omega arith) (let here : Err (BadMaterial Short) ≡ Err why = rw short at told in cc))
-      (λ (enough : nat_lt (length material) 32 ≡ false).
-      ⊎_elim (λ (long : nat_lt 32 (length material) ≡ true). low (BadMaterial Long) (omega arith) (let here : Err (BadMaterial Long) ≡ Err why = rw (enough, long) at told in cc))
-      (λ (fits : nat_lt 32 (length material) ≡ false). let none : Ok material ≡ Err why = rw (enough, fits) at told in cc) (cases_Bool (nat_lt 32 (length material)))) (cases_Bool (nat_lt (length material) 32))
-  wrapping_apart Hex material iters salt told = high BadOptions (omega arith) (cc)
-  wrapping_apart Passphrase material iters salt told = high BadOptions (omega arith) (cc)
+  by_length : (a b : Bool) → (if a then Some (BadMaterial Short) else if b then Some (BadMaterial Long) else None) ≡ Some why → ⊥
+  by_length true b found = low (BadMaterial Short) (omega arith) (cc)
+  by_length false true found = low (BadMaterial Long) (omega arith) (cc)
+  by_length false false found = cc
+
+  by_digits : (fault : Option Refusal) (b : Bool) (at : ℕ) → (fault ≡ Some why → ⊥) → option_or fault (if b then None else Some (BadMaterial (NoDigit at))) ≡ Some why → ⊥
+  by_digits (Some first) b at apart found = apart found
+  by_digits None true at apart found = cc
+  by_digits None false at apart found = low (BadMaterial (NoDigit at)) (omega arith) (cc)
+
+  by_iters : (b : Bool) (fault : Option Refusal) → (fault ≡ Some why → ⊥) → (if b then Some BadIters else fault) ≡ Some why → ⊥
+  by_iters true fault apart found = high BadIters (omega arith) (cc)
+  by_iters false fault apart found = apart found
+
+  length_apart : (least most : ℕ) (material : List ℕ) → length_fault least most material ≡ Some why → ⊥
+  length_apart least most material found = by_length (nat_lt (length material) least) (nat_lt most (length material)) found
+
+  material_apart : (format : Format) (material : List ℕ) (iters : ℕ) → material_fault format material iters ≡ Some why → ⊥
+  material_apart Raw material iters found = length_apart 32 32 material found
+  material_apart Hex material iters found =
+      let digits : List ℕ = without_line_feed material in
+      by_digits (length_fault 64 64 digits) (prefix_len is_ascii_hexdigit digits == length digits) (prefix_len is_ascii_hexdigit digits) (length_apart 64 64 digits) found
+  material_apart Passphrase material iters found =
+      let phrase : List ℕ = without_line_feed material in
+      by_iters (nat_lt iters 100000 || nat_lt 10000000 iters) (length_fault 8 512 phrase) (length_apart 8 512 phrase) found
+
+  faulty_is : (fault : Option Refusal) (key : List ℕ) → unless_faulty fault key ≡ Err why → fault ≡ Some why
+  faulty_is None key told = absurd (cc)
+  faulty_is (Some first) key told = cc
+
+  wrapping_apart : (format : Format) (material : List ℕ) (iters salt : ℕ) → wkey format material iters salt ≡ Err why → ⊥
+  wrapping_apart format material iters salt told = material_apart format material iters (faulty_is (material_fault format material iters) (material_key format material iters salt) told)
 
   -- a fetched key's fault is that of its fetch
   key_fault_is : (format : Format) (iters salt : ℕ) (fetched : Fetched) → WasAsked fetched → key_of ciphers format iters salt fetched ≡ Err why → (fetched ≡ fetches.Fault) × (why ≡ KeyFault)
@@ -212,27 +233,29 @@ module _ (why : Refusal) (taking : IsTaking why) where
   load_fault p kit None asked fault = absurd (cc)
   load_fault p kit (Some root) asked fault = load_of_fault p kit root (at_id root p.roots) asked fault
 
-  kit_fault : (p : Plain) (command : KeyCmd) (kit : LineKit) → Suffices p command kit → (told ciphers p command kit).fault ≡ Some why → Failed why kit
-  kit_fault p (commands.Create name opts) kit suffices fault =
+  kit_fault : (p : Plain) (command : KeyCmd) (kit : LineKit) → IsOfLine command → Suffices p command kit → (told ciphers p command kit).fault ≡ Some why → Failed why kit
+  kit_fault p (commands.Create name opts) kit of_line suffices fault =
       create_fault p name opts kit (λ root. suffices.new_key (ap (λ b. is_some (let place : Option Location = if b then Some (unwrap_or opts.place Prompt) else None in place)) root)) (λ encrypted. suffices.seed encrypted) fault
-  kit_fault p (commands.Load name check_only place) kit suffices fault = load_fault p kit (id_named name p.tree.rows) (suffices.new_key refl) fault
-  kit_fault p (commands.Unload name) kit suffices fault = absurd (cc)
-  kit_fault p (commands.Get name prop) kit suffices fault = absurd (cc)
-  kit_fault p (commands.Change name opts load_first) kit suffices fault = absurd (cc)
-  kit_fault p (commands.Inherit name load_first) kit suffices fault = absurd (cc)
-  kit_fault p (commands.Mount name) kit suffices fault = absurd (cc)
-  kit_fault p (commands.Unmount name) kit suffices fault = absurd (cc)
-  kit_fault p (commands.Clone from name) kit suffices fault = absurd (cc)
-  kit_fault p (commands.Receive name props wrapped block) kit suffices fault = absurd (cc)
-  kit_fault p (commands.Destroy name snaps) kit suffices fault = absurd (cc)
+  kit_fault p (commands.Load name check_only place) kit of_line suffices fault = load_fault p kit (id_named name p.tree.rows) (suffices.new_key refl) fault
+  kit_fault p (commands.Unload name) kit of_line suffices fault = absurd (cc)
+  kit_fault p (commands.Get name prop) kit of_line suffices fault = absurd (cc)
+  kit_fault p (commands.Change name opts load_first) kit of_line suffices fault = absurd of_line
+  kit_fault p (commands.Inherit name load_first) kit of_line suffices fault = absurd of_line
+  kit_fault p (commands.Mount name) kit of_line suffices fault = absurd of_line
+  kit_fault p (commands.Unmount name) kit of_line suffices fault = absurd of_line
+  kit_fault p (commands.Clone from name) kit of_line suffices fault = absurd of_line
+  kit_fault p (commands.Receive name props wrapped block) kit of_line suffices fault = absurd of_line
+  kit_fault p (commands.Destroy name snaps) kit of_line suffices fault = absurd of_line
 
-  pub step_fault : (p : Plain) (command : KeyCmd) (kit : LineKit) → Suffices p command kit → (stepped p command kit).reply ≡ Refused why → Failed why kit
-  step_fault p command kit suffices refused = kit_fault p command kit suffices (told_fault p command (told ciphers p command kit) refused)
+  pub step_fault : (p : Plain) (command : KeyCmd) (kit : LineKit) → IsOfLine command → Suffices p command kit → (stepped p command kit).reply ≡ Refused why → Failed why kit
+  step_fault p command kit of_line suffices refused = kit_fault p command kit of_line suffices (told_fault p command of_line (told ciphers p command kit) refused)
 
 -- ---- a command that is refused by one of them
 
-replies_refused : (result : Result Shown Stop) (reply : Reply) (why : Refusal) → result ≡ Err (stops.Refused why) → Replies result reply → reply ≡ Refused why
-replies_refused result reply why same replies = let refused : Replies (Err (stops.Refused why)) reply = subst (λ (r : Result Shown Stop). Replies r reply) same replies in refused
+replies_refused : (result : Result Shown Stop) (reply : Reply) (why : Refusal) → settled result ≡ Ok (Err why) → Replies result reply → reply ≡ Refused why
+replies_refused (Ok shown) reply why same replies = absurd (cc)
+replies_refused (Err (stops.Refused other)) reply why same replies = let inner : other ≡ why = cc in replies ∙ ap (λ w. Refused w) inner
+replies_refused (Err stops.NoMemory) reply why same replies = absurd (cc)
 
 wants_by : (p : Plain) (command : KeyCmd) (needs : Needs) (refusal : Option Refusal) → needed_unless p command refusal ≡ Ok needs → needs_of (wanted p command) ≡ needs
 wants_by p command needs None known = cc
@@ -247,22 +270,21 @@ suffices_by p command needs kit known has =
       seed = λ asked. has.seed (ap (λ (n : Needs). n.seed) (sym wants) ∙ asked);
     }
 
-pub executed_fault : (why : Refusal) → IsTaking why → (p : Plain) (command : KeyCmd) (needs : Needs) (kit : LineKit) (result : Result Shown Stop) → needed p command ≡ Ok needs → HasWanted needs kit
-    → Replies result (stepped p command kit).reply → result ≡ Err (stops.Refused why) → Failed why kit
-executed_fault why taking p command needs kit result known has replies refused =
-    step_fault why taking p command kit (suffices_by p command needs kit known has) (replies_refused result (stepped p command kit).reply why refused replies)
+pub executed_fault : (why : Refusal) → IsTaking why → (p : Plain) (command : KeyCmd) → IsOfLine command → (needs : Needs) (kit : LineKit) (result : Result Shown Stop) → needed p command ≡ Ok needs → HasWanted needs kit
+    → Replies result (stepped p command kit).reply → settled result ≡ Ok (Err why) → Failed why kit
+executed_fault why taking p command of_line needs kit result known has replies refused =
+    step_fault why taking p command kit of_line (suffices_by p command needs kit known has) (replies_refused result (stepped p command kit).reply why refused replies)
 
 needed_apart : (why : Refusal) (p : Plain) (command : KeyCmd) (refusal : Option Refusal) → needed_unless p command refusal ≡ Err why → refusal ≡ Some why
 needed_apart why p command None known = absurd (cc)
 needed_apart why p command (Some other) known = cc
 
-pub needs_apart : (why : Refusal) → IsTaking why → (p : Plain) (command : KeyCmd) (stop : Stop) → Gives (let stopped : Result Needs Stop = Err stop in stopped) (needed p command)
-    → (let stopped : Result Shown Stop = Err stop in stopped) ≡ Err (stops.Refused why) → ⊥
-needs_apart why taking p command (stops.Refused other) gives same =
-    let stop : (let s : Stop = stops.Refused other in s) ≡ stops.Refused why = cc in
+pub needs_apart : (why : Refusal) → IsTaking why → (p : Plain) (command : KeyCmd) → IsOfLine command → (stop : Stop) → Gives (let stopped : Result Needs Stop = Err stop in stopped) (needed p command)
+    → settled (Err stop) ≡ Ok (Err why) → ⊥
+needs_apart why taking p command of_line (stops.Refused other) gives same =
     let inner : other ≡ why = cc in
-    state_apart why taking p command (needed_apart why p command (refusal_of p command) (gives ∙ ap (λ w. let r : Result Needs Refusal = Err w in r) inner))
-needs_apart why taking p command stops.NoMemory gives same = let stop : (let s : Stop = stops.NoMemory in s) ≡ stops.Refused why = cc in cc
+    state_apart why taking p command of_line (needed_apart why p command (refusal_of p command) (gives ∙ ap (λ w. let r : Result Needs Refusal = Err w in r) inner))
+needs_apart why taking p command of_line stops.NoMemory gives same = cc
 
 pub key_taking : IsTaking KeyFault
 key_taking = record { low = omega arith; high = omega arith }

@@ -1,3 +1,4 @@
+pub mod ScriptLemmas
 pub mod WritingLemmas
 pub mod TakingLemmas
 pub mod KitLemmas

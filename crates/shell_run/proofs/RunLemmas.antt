@@ -1,69 +1,46 @@
 -- One line of a run, and many.
-use Rattle.std.proofs.Common.{◌≡◌, ◌≢◌, ℕ, ◌+◌, ◌<◌, ◌≤◌, nat_lt, true, false, List, [], ◌∷◌, ◌++◌, length, take, drop, Option, Some, None, Result, Ok, Err, IfSome, IsSomeAnd, OnOk, OnErr, refl, ap, sym, ◌∙◌, subst, append_assoc, arith, inl, inr, ⊎_elim}
+use Rattle.std.proofs.Common.{◌≡◌, ◌≢◌, ℕ, zero, suc, ◌+◌, ◌<◌, ◌≤◌, nat_lt, Bool, true, false, is_some, List, [], ◌∷◌, ◌++◌, length, take, Option, Some, None, Result, Ok, Err, IfSome, IsSomeAnd, OnOk, OnErr, if◌then◌else◌, refl, ap, sym, ◌∙◌, subst, append_assoc, arith, inl, inr, ⊎_elim}
 use Rattle.std.specs.Io.KnownBytes.{Appends}
 use Rattle.std.specs.List.{flat_map}
-use Rattle.std.proofs.lemmas.Bool.Decides.{nat_tests}
+use Rattle.std.specs.Option.{option_map}
 use Rattle.std.proofs.lemmas.List.{append-nil}
 use Rattle.key_machine.specs.Plain.{Plain, no_keys}
 use Rattle.edge_io.specs.Faults.{HasCause}
+use Rattle.edge_io.specs.Lines.{prompt_of}
 use Rattle.edge_io.specs.Told.{unread}
-use Rattle.edge_io.specs.Lines.{lines, first_line, next_line, rest_of}
-use Rattle.edge_io.proofs.LinesLemmas.{lines_next}
 use Rattle.edge_io.specs.declared.errors.Failed.{Failed}
+use Rattle.encryption_roots.specs.declared.props.Location.{Location}
+use Rattle.encryption_roots.specs.declared.props.Location.TheVariants.{Prompt, File}
+use Rattle.encryption_roots.specs.declared.command.KeyCmd.{KeyCmd}
+use Rattle.encryption_roots.specs.declared.command.KeyCmd.TheVariants as commands
+use Rattle.dataset_tree.specs.SetName.{named}
+use Rattle.encryption_roots.specs.declared.kit.Fetched.{Fetched}
+use Rattle.dataset_tree.specs.declared.refusal.Refusal.{Refusal}
+use Rattle.key_machine.specs.Step.{refusal_of, wanted}
+use Rattle.key_machine.specs.Told.{Wanted}
 use Rattle.shell_lines.specs.declared.line.Line.{Line}
-use Rattle.shell_lines.specs.declared.line.LineStop.TheVariants as line_stops
+use Rattle.shell_lines.specs.declared.line.Line.TheVariants.{Silent, Create, LoadKey, UnloadKey, Get, List as ListSets}
 use Rattle.shell_lines.specs.Grammar.{line_of}
 use Rattle.shell_run.specs.declared.ending.Ending.{Ending}
 use Rattle.shell_run.specs.declared.ending.Ending.TheVariants.{Done, Usage, BadLine, ReadFault, WriteFault, NoMemory}
+use Rattle.shell_run.specs.declared.ending.Halt.{Halt}
+use Rattle.shell_run.specs.declared.ending.Halt.TheVariants as halts
 use Rattle.shell_run.specs.declared.found.FoundEntry.{FoundEntry}
-use Rattle.shell_run.specs.Answers.{Acts, Agrees, AnswersTo, HasAnswer, WhereTold, answer_takings}
-use Rattle.shell_run.specs.Endings.{EndsInLine, SourceFaults, status_of}
+use Rattle.shell_run.specs.declared.found.FoundKind.TheVariants.{OldKey, NewKey}
+use Rattle.shell_run.specs.Answers.{Acts, Agrees, HaltsIn, HasAnswer, WhereTold, answer_takings, spot_of}
+use Rattle.shell_run.specs.Endings.{ending_of, status_of}
 use Rattle.shell_run.specs.Outer.{Outer}
-use Rattle.shell_run.specs.Progress.{Goes as GoesOn, Taken, Ends as EndsSo, TookCut, TakesLine, TakesNone, HasReplied, HasCut, Replied, LineRan, RunsFrom, StaysTold}
+use Rattle.shell_run.specs.Progress.{Goes as GoesOn, Taken, Ends as EndsSo, TookCut, GoesPast, NoLine, IsNextLine, NoneTaken, HasReplied, HasCut, Replied, LineRan, RunsFrom, StartsNot}
 use Rattle.shell_run.specs.Ran.{IsAnswered, IsFront, IsCut, Came, WroteLast}
-use Rattle.shell_run.specs.Takings.{Taking, has_entry, entries_of}
+use Rattle.shell_run.specs.Script.{Script, ToldScript, Given, Gives, Stops, prompted, prompted_by, prompted_before, past_line, script_of, script_told, within_limits}
+use Rattle.shell_run.specs.Takings.{Taking, has_entry, entries_of, fills_of}
 use Rattle.shell_run.specs.Texts.{bad_line}
-use Rattle.shell_run.specs.Transcript.{World, told_world, Run, Turn, Answer, Goes, Ends, preceded, replies_of, made_in, goes_on, checked, answer_if, run_within, run_from, transcript}
-use Rattle.shell_run.proofs.CommandLemmas.{front_nil, on_told}
+use Rattle.shell_run.specs.Transcript.{World, world_of, told_world, Spot, taking_at, at_prompt, material_at, Supply, Has, Lacks, with_new, with_old, kit_of, Outcome, Does, Halts, supplied, unless_refused, commanded, command_named, commanded_if, key_answer, Run, Turn, Answer, Goes, Ends, answered, preceded, replies_of, made_in, goes_on, checked, answer_of, answer_if, run_over, run_before, run_within, run_from, transcript}
+use Rattle.shell_run.proofs.CommandLemmas.{acts_told, front_nil, told_each, told_of}
+use Rattle.shell_run.proofs.KitLemmas.{told_at}
+use Rattle.shell_run.proofs.ScriptLemmas.{limit_bad, limit_within}
 use Rattle.shell_run.proofs.TakingLemmas.{agrees_own, all_first, all_second, takes_none, takes_more, takes_weaker}
 use Rattle.shell_run.proofs.WritingLemmas.{append_nil, Appends-nil, Appends-append, Took-after, Took-from_Appends}
-
--- ---- taking a line
-
-pub takes_line : (told left : Option (List ℕ)) (line : List ℕ) → IfSome told (λ bytes. Some line ≡ next_line bytes) → IfSome told (λ bytes. left ≡ Some (rest_of bytes))
-    → IfSome told (λ bytes. TakesLine line bytes left)
-takes_line None left line next rest = tt
-takes_line (Some bytes) left line next rest = rw rest (lines_next bytes ∙ rw (← next) refl)
-
-too_long : (bytes : List ℕ) → 65536 < length (first_line bytes) → (line : List ℕ) × (rest : List (List ℕ)) × (lines bytes ≡ line ∷ rest) × (65536 < length line)
-too_long [] long = absurd (omega arith)
-too_long (byte ∷ bytes) long = (first_line (byte ∷ bytes), lines (rest_of (byte ∷ bytes)), lines_next (byte ∷ bytes), long)
-
-pub takes_none_long : (told left : Option (List ℕ)) (number at : ℕ) → at ≡ 65536 → IfSome told (λ bytes. 65536 < length (first_line bytes))
-    → IfSome told (λ bytes. TakesNone (BadLine number at) number bytes left)
-takes_none_long None left number at e long = tt
-takes_none_long (Some bytes) left number at e long = let found = too_long bytes long in (refl, e, found.0, found.1, found.2, found.3)
-
--- where a line was taken, what is left is told
-pub line_stays : (r : Option Ending) (told left : Option (List ℕ)) (line : List ℕ) → IfSome told (λ bytes. TakesLine line bytes left) → StaysTold r told left
-line_stays (Some e) told left line takes = tt
-line_stays None None left line takes = tt
-line_stays None (Some bytes) None line takes = absurd takes
-line_stays None (Some bytes) (Some rest) line takes = tt
-
-pub stays_none : (told : Option (List ℕ)) → StaysTold None told told
-stays_none None = tt
-stays_none (Some bytes) = tt
-
-pub stays_more : (a b c : Option (List ℕ)) → StaysTold None a b → StaysTold None b c → StaysTold None a c
-stays_more None b c p q = tt
-stays_more (Some bytes) None c p q = absurd p
-stays_more (Some bytes) (Some rest) c p q = q
-
-pub all_read : (told now left : Option (List ℕ)) → StaysTold None told now → IfSome now (λ bytes. left ≡ Some []) → IfSome told (λ bytes. left ≡ Some [])
-all_read None now left stays all = tt
-all_read (Some bytes) None left stays all = absurd stays
-all_read (Some bytes) (Some rest) left stays all = all
 
 -- ---- writing the closing line
 
@@ -74,65 +51,38 @@ closes (Err failed) line t0 t1 before now written part cause = record { part = p
 -- ---- answering a line
 
 has_replied : (answer : Answer) (new : Option World) (reply : List ℕ) (t0 t1 : Option (List ℕ)) (made : List Taking) → HasAnswer (Ok tt) answer new [] reply made → Appends t0 t1 reply → HasReplied answer new t0 t1 made
-has_replied (Goes turn) new reply t0 t1 made answered written = (answered.0.0, subst (λ (bytes : List ℕ). Appends t0 t1 bytes) answered.0.1 written, answered.0.2, answered.1)
-has_replied (Ends number at w takings) new reply t0 t1 made answered written = absurd answered
+has_replied (Goes turn) new reply t0 t1 made said written = (said.0, subst (λ (bytes : List ℕ). Appends t0 t1 bytes) said.1 written, said.2)
+has_replied (Ends number at w takings) new reply t0 t1 made said written = absurd said
 
 has_cut : (answer : Answer) (new : Option World) (reply : List ℕ) (t0 t1 : Option (List ℕ)) (made : List Taking) → HasAnswer (Ok tt) answer new [] reply made → TookCut reply t0 t1 → HasCut answer t0 t1 made
-has_cut (Goes turn) new reply t0 t1 made answered part = (subst (λ (bytes : List ℕ). TookCut bytes t0 t1) answered.0.1 part, answered.0.2)
-has_cut (Ends number at w takings) new reply t0 t1 made answered part = absurd answered
+has_cut (Goes turn) new reply t0 t1 made said part = (subst (λ (bytes : List ℕ). TookCut bytes t0 t1) said.1 part, said.2)
+has_cut (Ends number at w takings) new reply t0 t1 made said part = absurd said
 
-acts_told : (n : ℕ) (a b : Outer) (world : Option World) (P Q : List FoundEntry → World → List Taking → Type 0) → ((entries : List FoundEntry) (w : World) (made : List Taking) → P entries w made → Q entries w made)
-    → Acts n a b (λ made. WhereTold world made (λ entries w. P entries w made)) → Acts n a b (λ made. WhereTold world made (λ entries w. Q entries w made))
-acts_told n a b world P Q follows acts = record {
-  made = acts.made;
-  takes = acts.takes;
-  said = λ entries agrees. on_told world (λ w. P entries w acts.made) (λ w. Q entries w acts.made) (λ w. follows entries w acts.made) (acts.said entries agrees);
-}
+pub replied_all : (n : ℕ) (a b : Outer) (world new : Option World) (answer : List FoundEntry → World → Answer) (reply : List ℕ) (t0 t1 : Option (List ℕ)) → Appends t0 t1 reply
+    → Acts n a b (λ made. WhereTold world made (λ entries w. HasAnswer (Ok tt) (answer entries w) new [] reply made))
+    → Acts n a b (λ made. WhereTold world made (λ entries w. Replied None (answer entries w) new t0 t1 made))
+replied_all n a b world new answer reply t0 t1 written =
+    acts_told n a b world (λ entries w made. HasAnswer (Ok tt) (answer entries w) new [] reply made) (λ entries w made. Replied None (answer entries w) new t0 t1 made)
+    (λ entries w made said. has_replied (answer entries w) new reply t0 t1 made said written)
 
-pub replied_all : (n : ℕ) (a b : Outer) (world new : Option World) (outcome : Result Line ℕ) (reply : List ℕ) (t0 t1 : Option (List ℕ)) → Appends t0 t1 reply
-    → Acts n a b (λ made. WhereTold world made (λ entries w. AnswersTo (Ok tt) n outcome entries w new [] reply made))
-    → Acts n a b (λ made. WhereTold world made (λ entries w. Replied None n outcome entries w new t0 t1 made))
-replied_all n a b world new outcome reply t0 t1 written =
-    acts_told n a b world (λ entries w made. AnswersTo (Ok tt) n outcome entries w new [] reply made) (λ entries w made. Replied None n outcome entries w new t0 t1 made)
-    (λ entries w made answered later. has_replied (answer_if n entries w outcome later) new reply t0 t1 made (answered later) written)
+pub replied_cut : (n : ℕ) (a b : Outer) (world new : Option World) (answer : List FoundEntry → World → Answer) (reply : List ℕ) (t0 t1 : Option (List ℕ)) → TookCut reply t0 t1
+    → Acts n a b (λ made. WhereTold world made (λ entries w. HasAnswer (Ok tt) (answer entries w) new [] reply made))
+    → Acts n a b (λ made. WhereTold world made (λ entries w. Replied (Some WriteFault) (answer entries w) new t0 t1 made))
+replied_cut n a b world new answer reply t0 t1 part =
+    acts_told n a b world (λ entries w made. HasAnswer (Ok tt) (answer entries w) new [] reply made) (λ entries w made. Replied (Some WriteFault) (answer entries w) new t0 t1 made)
+    (λ entries w made said. has_cut (answer entries w) new reply t0 t1 made said part)
 
-pub replied_cut : (n : ℕ) (a b : Outer) (world new : Option World) (outcome : Result Line ℕ) (reply : List ℕ) (t0 t1 : Option (List ℕ)) → TookCut reply t0 t1
-    → Acts n a b (λ made. WhereTold world made (λ entries w. AnswersTo (Ok tt) n outcome entries w new [] reply made))
-    → Acts n a b (λ made. WhereTold world made (λ entries w. Replied (Some WriteFault) n outcome entries w new t0 t1 made))
-replied_cut n a b world new outcome reply t0 t1 part =
-    acts_told n a b world (λ entries w made. AnswersTo (Ok tt) n outcome entries w new [] reply made) (λ entries w made. Replied (Some WriteFault) n outcome entries w new t0 t1 made)
-    (λ entries w made answered later. has_cut (answer_if n entries w outcome later) new reply t0 t1 made (answered later) part)
+halts_so : (halt : Halt) (answer : Answer) (new : Option World) (t : Option (List ℕ)) (made : List Taking) → HaltsIn halt answer made → Replied (Some (ending_of halt)) answer new t t made
+halts_so (halts.BadLine number at) answer new t made said = (refl, said)
+halts_so halts.ReadFault answer new t made said = (refl, said)
+halts_so halts.NoMemory answer new t made said = (refl, said)
 
-pub replied_bad : (n at : ℕ) (a b : Outer) (world new : Option World) (outcome : Result Line ℕ) (before after : List ℕ) (t : Option (List ℕ))
-    → Acts n a b (λ made. WhereTold world made (λ entries w. AnswersTo (Err (line_stops.Bad at)) n outcome entries w new before after made))
-    → Acts n a b (λ made. WhereTold world made (λ entries w. Replied (Some (BadLine n at)) n outcome entries w new t t made))
-replied_bad n at a b world new outcome before after t =
-    acts_told n a b world (λ entries w made. AnswersTo (Err (line_stops.Bad at)) n outcome entries w new before after made) (λ entries w made. Replied (Some (BadLine n at)) n outcome entries w new t t made)
-    (λ entries w made answered. (refl, answered.0, refl, answered.1))
-
-pub replied_not : (n : ℕ) (a b : Outer) (world new : Option World) (outcome : Result Line ℕ) (before after : List ℕ) (t : Option (List ℕ))
-    → Acts n a b (λ made. WhereTold world made (λ entries w. AnswersTo (Err line_stops.NoMemory) n outcome entries w new before after made))
-    → Acts n a b (λ made. WhereTold world made (λ entries w. Replied (Some NoMemory) n outcome entries w new t t made))
-replied_not n a b world new outcome before after t =
-    acts_told n a b world (λ entries w made. AnswersTo (Err line_stops.NoMemory) n outcome entries w new before after made) (λ entries w made. Replied (Some NoMemory) n outcome entries w new t t made)
-    (λ entries w made answered. (refl, answered))
-
--- how a line that was taken can end the run
-
-pub not_done : (r : Option Ending) → EndsInLine r → r ≢ Some Done
-not_done r kinds same = let none : EndsInLine (Some Done) = subst EndsInLine same kinds in none
-
-pub not_usage : (r : Option Ending) → EndsInLine r → r ≢ Some Usage
-not_usage r kinds same = let none : EndsInLine (Some Usage) = subst EndsInLine same kinds in none
-
-pub source_kept : (r : Option Ending) (before now : ℕ) → EndsInLine r → now ≡ before → SourceFaults r before now
-source_kept None before now kinds same = same
-source_kept (Some (BadLine number at)) before now kinds same = same
-source_kept (Some WriteFault) before now kinds same = same
-source_kept (Some NoMemory) before now kinds same = same
-source_kept (Some Done) before now kinds same = absurd kinds
-source_kept (Some Usage) before now kinds same = absurd kinds
-source_kept (Some ReadFault) before now kinds same = absurd kinds
+pub replied_halt : (n : ℕ) (a b : Outer) (world new : Option World) (answer : List FoundEntry → World → Answer) (halt : Halt) (before after : List ℕ) (t : Option (List ℕ))
+    → Acts n a b (λ made. WhereTold world made (λ entries w. HasAnswer (Err halt) (answer entries w) new before after made))
+    → Acts n a b (λ made. WhereTold world made (λ entries w. Replied (Some (ending_of halt)) (answer entries w) new t t made))
+replied_halt n a b world new answer halt before after t =
+    acts_told n a b world (λ entries w made. HasAnswer (Err halt) (answer entries w) new before after made) (λ entries w made. Replied (Some (ending_of halt)) (answer entries w) new t t made)
+    (λ entries w made said. halts_so halt (answer entries w) new t made said)
 
 -- ---- turns, one after another
 
@@ -169,13 +119,20 @@ came_preceded front b status replies made c = record {
   whole = ap (λ zs. front ++ zs) c.whole ∙ sym (append_assoc front c.turns c.later);
   answered = c.answered;
   replied = λ other. ap (λ zs. replies_of front ++ zs) (c.replied other) ∙ sym (replies_both front c.turns);
-  taken = λ other memory. ap (λ zs. made_in front ++ zs) (c.taken other memory) ∙ sym (made_both front c.turns);
+  taken = λ fault other memory. ap (λ zs. made_in front ++ zs) (c.taken fault other memory) ∙ sym (made_both front c.turns);
   cut = λ five.
       let there = c.cut five in (
         there.0,
         ap (λ zs. replies_of front ++ zs) there.1 ∙ sym (append_assoc (replies_of front) (replies_of c.turns) there.0) ∙ ap (λ zs. zs ++ there.0) (sym (replies_both front c.turns)),
         there.2,
         ap (λ zs. made_in front ++ zs) there.3 ∙ sym (made_both front (c.turns ++ take 1 c.later)) ∙ ap made_in (sym (append_assoc front c.turns (take 1 c.later))),
+      );
+  unread = λ four.
+      let there = c.unread four in (
+        there.0,
+        ap (λ zs. made_in front ++ zs) there.1 ∙ sym (append_assoc (made_in front) (made_in c.turns) there.0) ∙ ap (λ zs. zs ++ there.0) (sym (made_both front c.turns)),
+        there.2,
+        there.3,
       );
   stopped = λ twelve.
       let there = c.stopped twelve in (
@@ -206,14 +163,6 @@ goes_ends e a b xs ys t0 t1 t2 p q =
     let whole : EndsSo e (preceded p.turns b) (made_in p.turns ++ ys) t0 t2 = ends_preceded e p.turns b ys t0 t1 t2 p.taken q in
     subst (λ (r : Run). EndsSo e r (xs ++ ys) t0 t2) (sym p.goes_on) (subst (λ (zs : List Taking). EndsSo e (preceded p.turns b) (zs ++ ys) t0 t2) (sym p.made_is) whole)
 
-nothing_taken : (e : Ending) (t : Option (List ℕ)) → Taken e t t []
-nothing_taken WriteFault t = Took-from_Appends t t [] (Appends-nil t)
-nothing_taken Done t = Appends-nil t
-nothing_taken Usage t = Appends-nil t
-nothing_taken ReadFault t = Appends-nil t
-nothing_taken NoMemory t = Appends-nil t
-nothing_taken (BadLine number at) t = Appends-nil t
-
 pub unanswered : (status : ℕ) → 4 ≤ status → IsAnswered status → ⊥
 unanswered status high answered = ⊎_elim (λ e. omega (arith, e, high)) (λ other. ⊎_elim (λ e. omega (arith, e, high)) (λ e. omega (arith, e, high)) other) answered
 
@@ -225,8 +174,9 @@ came_all run status low same = record {
   whole = sym (append-nil run.turns);
   answered = λ answered. (same, refl);
   replied = λ other. refl;
-  taken = λ other memory. refl;
+  taken = λ fault other memory. refl;
   cut = λ five. absurd (omega (arith, five, low));
+  unread = λ four. absurd (omega (arith, four, low));
   stopped = λ twelve. absurd (omega (arith, twelve, low));
 }
 
@@ -238,8 +188,9 @@ came_none run status high other = record {
   whole = refl;
   answered = λ answered. absurd (unanswered status high answered);
   replied = λ same. refl;
-  taken = λ same memory. refl;
+  taken = λ fault same memory. refl;
   cut = λ five. absurd (other five);
+  unread = λ four. ([], refl, front_nil (made_in (take 1 run.turns)), refl);
   stopped = λ twelve. ([], refl, front_nil (made_in (take 1 run.turns)));
 }
 
@@ -259,30 +210,134 @@ no_memory_ends run t = record {
   last = λ answered. absurd (unanswered 12 (omega arith) answered);
 }
 
+-- ---- what is left of a script
+
+-- what a command takes leaves no more lines than it found
+abbrev GivenWithin : {A : Type 0} → ℕ → Given A → Type 0
+GivenWithin k (Gives given left) = length left.ahead ≤ k
+GivenWithin k (Stops number at) = Unit {0}
+
+abbrev SupplyWithin : ℕ → Supply → Type 0
+SupplyWithin k (Has kit left takings) = length left.ahead ≤ k
+SupplyWithin k (Lacks number at takings) = Unit {0}
+
+abbrev OutcomeWithin : ℕ → Outcome → Type 0
+OutcomeWithin k (Does done) = length done.world.script.ahead ≤ k
+OutcomeWithin k (Halts number at w takings) = Unit {0}
+
+abbrev AnswerWithin : ℕ → Answer → Type 0
+AnswerWithin k (Goes turn) = length turn.world.script.ahead ≤ k
+AnswerWithin k (Ends number at w takings) = Unit {0}
+
+limits_within : (k : ℕ) (b c : Bool) (number : ℕ) (given : Given (List ℕ)) → GivenWithin k given → GivenWithin k (if b then Stops number 0 else if c then Stops number 65536 else given)
+limits_within k true c number given within = tt
+limits_within k false true number given within = tt
+limits_within k false false number given within = within
+
+prompted_within_of : (k : ℕ) (script : Script) (ahead : List (List ℕ)) → length script.ahead ≤ k → length ahead ≤ k → GivenWithin k (prompted_before script ahead)
+prompted_within_of k script [] all within = all
+prompted_within_of k script (line ∷ later) all within = by_line (prompt_of line) where
+  by_line : (material : Option (List ℕ)) → GivenWithin k (prompted_by script line later material)
+  by_line None = all
+  by_line (Some material) = limits_within k (nat_lt 1048576 script.next) (nat_lt 65536 (length line)) script.next (Gives material (past_line script later)) (omega (arith, within))
+
+at_prompt_within : (k : ℕ) (given : Given (List ℕ)) → GivenWithin k given → GivenWithin k (at_prompt given)
+at_prompt_within k (Gives material left) within = within
+at_prompt_within k (Stops number at) within = tt
+
+material_within : (taking : Taking) (files : List (List ℕ × List ℕ)) (script : Script) (place : Option Location) → GivenWithin (length script.ahead) (material_at taking files script place)
+material_within taking files script None = omega arith
+material_within taking files script (Some Prompt) = at_prompt_within (length script.ahead) (prompted script) (prompted_within_of (length script.ahead) script script.ahead (omega arith) (omega arith))
+material_within taking files script (Some (File path)) = omega arith
+
+new_within : (k : ℕ) (spot : Spot) (left : List ℕ) (wants : Wanted) (old : Fetched) (given : Given Fetched) → GivenWithin k given → SupplyWithin k (with_new spot left wants old given)
+new_within k spot left wants old (Gives new script) within = within
+new_within k spot left wants old (Stops number at) within = tt
+
+given_below : (k m : ℕ) (given : Given Fetched) → m ≤ k → GivenWithin m given → GivenWithin k given
+given_below k m (Gives given left) below within = omega (arith, below, within)
+given_below k m (Stops number at) below within = tt
+
+old_within : (k : ℕ) (spot : Spot) (files : List (List ℕ × List ℕ)) (left : List ℕ) (wants : Wanted) (given : Given Fetched) → GivenWithin k given → SupplyWithin k (with_old spot files left wants given)
+old_within k spot files left wants (Stops number at) within = tt
+old_within k spot files left wants (Gives old script) within =
+    new_within k spot left wants old (material_at (taking_at spot NewKey) files script wants.new_place)
+    (given_below k (length script.ahead) (material_at (taking_at spot NewKey) files script wants.new_place) within (material_within (taking_at spot NewKey) files script wants.new_place))
+
+supplied_within : (k : ℕ) (w : World) (command : KeyCmd) (supply : Supply) → SupplyWithin k supply → OutcomeWithin k (supplied w command supply)
+supplied_within k w command (Has kit left takings) within = within
+supplied_within k w command (Lacks number at takings) within = tt
+
+commanded_within : (spot : Spot) (w : World) (command : KeyCmd) (refusal : Option Refusal) → OutcomeWithin (length w.script.ahead) (unless_refused spot w command refusal)
+commanded_within spot w command (Some why) = omega arith
+commanded_within spot w command None =
+    supplied_within (length w.script.ahead) w command (kit_of spot w.files w.entropy w.script (wanted w.present.keys command))
+    (old_within (length w.script.ahead) spot w.files w.entropy (wanted w.present.keys command) (material_at (taking_at spot OldKey) w.files w.script (wanted w.present.keys command).old_place)
+    (material_within (taking_at spot OldKey) w.files w.script (wanted w.present.keys command).old_place))
+
+commanded_if_within : (spot : Spot) (w : World) (given : Result KeyCmd Refusal) → OutcomeWithin (length w.script.ahead) (commanded_if spot w given)
+commanded_if_within spot w (Ok command) = commanded_within spot w command (refusal_of w.present.keys command)
+commanded_if_within spot w (Err why) = omega arith
+
+answered_within : (n k : ℕ) (outcome : Outcome) → OutcomeWithin k outcome → AnswerWithin k (answered n outcome)
+answered_within n k (Does done) within = within
+answered_within n k (Halts number at w takings) within = tt
+
+key_within : (n : ℕ) (entries : List FoundEntry) (w : World) (command : List ℕ → KeyCmd) (word : List ℕ) → AnswerWithin (length w.script.ahead) (key_answer n entries w command word)
+key_within n entries w command word =
+    answered_within n (length w.script.ahead) (commanded_if (spot_of n entries) w (command_named command (named word))) (commanded_if_within (spot_of n entries) w (command_named command (named word)))
+
+line_within : (n : ℕ) (entries : List FoundEntry) (w : World) (line : Line) → AnswerWithin (length w.script.ahead) (answer_of n entries w line)
+line_within n entries w Silent = omega arith
+line_within n entries w ListSets = omega arith
+line_within n entries w (Create word opts) = key_within n entries w (λ name. commands.Create name opts) word
+line_within n entries w (LoadKey word check_only place) = key_within n entries w (λ name. commands.Load name check_only place) word
+line_within n entries w (UnloadKey word) = key_within n entries w (λ name. commands.Unload name) word
+line_within n entries w (Get prop word) = key_within n entries w (λ name. commands.Get name prop) word
+
+answer_within : (n : ℕ) (entries : List FoundEntry) (w : World) (outcome : Result Line ℕ) → AnswerWithin (length w.script.ahead) (answer_if n entries w outcome)
+answer_within n entries w (Ok line) = line_within n entries w line
+answer_within n entries w (Err at) = tt
+
+goes_same : (k : ℕ) (answer : Answer) (one other : Turn → Run) → AnswerWithin k answer → ((turn : Turn) → length turn.world.script.ahead ≤ k → one turn ≡ other turn) → goes_on answer one ≡ goes_on answer other
+goes_same k (Goes turn) one other within same = ap (preceded (turn ∷ [])) (same turn within)
+goes_same k (Ends number at w takings) one other within same = refl
+
+none_ahead : (found : List FoundEntry) (w : World) (ahead : List (List ℕ)) (rest : Turn → Run) → length ahead ≤ 0 → run_before found w ahead rest ≡ run_over
+none_ahead found w [] rest none = refl
+none_ahead found w (bytes ∷ later) rest none = absurd (omega (arith, none))
+
+before_same : (k : ℕ) (found : List FoundEntry) (w : World) (ahead : List (List ℕ)) (one other : Turn → Run) → length ahead ≤ suc k → ((turn : Turn) → length turn.world.script.ahead ≤ k → one turn ≡ other turn)
+    → run_before found w ahead one ≡ run_before found w ahead other
+before_same k found w [] one other within same = refl
+before_same k found w (bytes ∷ later) one other within same =
+    let here : World = record w { script = past_line w.script later } in
+    goes_same (length later) (answer_if w.script.next (entries_of w.script.next found) here (checked w.script.next bytes)) one other
+    (answer_within w.script.next (entries_of w.script.next found) here (checked w.script.next bytes)) (λ turn fits. same turn (omega (arith, within, fits)))
+
+-- any bound that suffices leads to the same run
+same_bound : (b c : ℕ) (found : List FoundEntry) (w : World) → length w.script.ahead ≤ b → b ≤ c → run_within b found w ≡ run_within c found w
+same_bound zero zero found w within more = refl
+same_bound zero (suc c) found w within more = sym (none_ahead found w w.script.ahead (λ turn. run_within c found turn.world) within)
+same_bound (suc b) zero found w within more = absurd (omega (arith, more))
+same_bound (suc b) (suc c) found w within more =
+    before_same b found w w.script.ahead (λ turn. run_within b found turn.world) (λ turn. run_within c found turn.world) within (λ turn fits. same_bound b c found turn.world fits (omega (arith, more)))
+
 -- ---- from a line to the rest of the run
 
-took_nothing : (t0 t1 : Option (List ℕ)) → t1 ≡ t0 → Appends t0 t1 []
-took_nothing t0 t1 e = subst (λ (t : Option (List ℕ)). Appends t0 t []) (sym e) (Appends-nil t0)
-
-checked_line : (n : ℕ) (line : List ℕ) → n ≤ 1048576 → length line ≤ 65536 → checked n line ≡ line_of line 0
-checked_line n line few short =
-    let within : nat_lt 1048576 n ≡ false = grind (arith, nat_tests) in
-    let fits : nat_lt 65536 (length line) ≡ false = grind (arith, nat_tests) in
-    rw (within, fits) refl
-
-one_line_goes : (answer : Answer) (rest : Turn → Run) (next : World → Run) (new : Option World) (t0 t1 : Option (List ℕ)) (made : List Taking) → ((turn : Turn) → turn.lines ≡ 1 → rest turn ≡ next turn.world) → HasReplied answer new t0 t1 made
-    → IsSomeAnd new (λ v. GoesOn (goes_on answer rest) (next v) made t0 t1)
-one_line_goes (Goes turn) rest next None t0 t1 made on replied = absurd (let none : None ≡ Some turn.world = replied.0 in cc)
-one_line_goes (Goes turn) rest next (Some v) t0 t1 made on replied =
+one_line_goes : (k : ℕ) (found : List FoundEntry) (answer : Answer) (new : Option World) (t0 t1 : Option (List ℕ)) (made : List Taking) → AnswerWithin k answer → HasReplied answer new t0 t1 made
+    → IsSomeAnd new (λ v. GoesOn (goes_on answer (λ turn. run_within k found turn.world)) (run_from found v) made t0 t1)
+one_line_goes k found (Goes turn) None t0 t1 made within replied = absurd (let none : None ≡ Some turn.world = replied.0 in cc)
+one_line_goes k found (Goes turn) (Some v) t0 t1 made within replied =
     let there : Some v ≡ Some turn.world = replied.0 in
     let world : turn.world ≡ v = cc in
     record {
       turns = turn ∷ [];
-      goes_on = ap (preceded (turn ∷ [])) (on turn replied.3 ∙ ap next world);
+      goes_on = ap (preceded (turn ∷ [])) (sym (same_bound (length turn.world.script.ahead) k found turn.world (omega arith) within) ∙ ap (run_from found) world);
       taken = subst (λ (bytes : List ℕ). Appends t0 t1 bytes) (append_nil turn.output) replied.1;
       made_is = replied.2 ∙ sym (append-nil turn.takings);
     }
-one_line_goes (Ends number at w takings) rest next new t0 t1 made on replied = absurd replied
+one_line_goes k found (Ends number at w takings) new t0 t1 made within replied = absurd replied
 
 cut_ends : (answer : Answer) (rest : Turn → Run) (t0 t1 : Option (List ℕ)) (made : List Taking) → HasCut answer t0 t1 made → EndsSo WriteFault (goes_on answer rest) made t0 t1
 cut_ends (Goes turn) rest t0 t1 made cut = record {
@@ -294,265 +349,276 @@ cut_ends (Goes turn) rest t0 t1 made cut = record {
     whole = refl;
     answered = λ answered. absurd (unanswered 5 (omega arith) answered);
     replied = λ other. absurd (other refl);
-    taken = λ other memory. absurd (other refl);
+    taken = λ fault other memory. absurd (other refl);
     cut = λ five. (cut.0.part, refl, subst (λ (bytes : List ℕ). IsCut cut.0.part bytes) (append_nil turn.output) cut.0.is_cut, cut.1 ∙ sym (append-nil turn.takings));
+    unread = λ four. absurd (omega (arith, four));
     stopped = λ twelve. absurd (omega (arith, twelve));
   };
   last = λ answered. absurd (unanswered 5 (omega arith) answered);
 }
 cut_ends (Ends number at w takings) rest t0 t1 made cut = absurd cut
 
-stopped_ends : (answer : Answer) (rest : Turn → Run) (t0 t1 : Option (List ℕ)) (made : List Taking) → t1 ≡ t0 → IsFront made (answer_takings answer) → EndsSo NoMemory (goes_on answer rest) made t0 t1
-stopped_ends answer rest t0 t1 made same front = record {
+next_takings : (answer : Answer) (rest : Turn → Run) (made : List Taking) → IsFront made (answer_takings answer) → IsFront made (made_in (take 1 (goes_on answer rest).turns))
+next_takings (Goes turn) rest made front = subst (λ (zs : List Taking). IsFront made zs) (sym (append-nil turn.takings)) front
+next_takings (Ends number at w takings) rest made front = subst (λ (zs : List Taking). IsFront made zs) (sym (append-nil takings)) front
+
+stopped_ends : (answer : Answer) (rest : Turn → Run) (t : Option (List ℕ)) (made : List Taking) → IsFront made (answer_takings answer) → EndsSo NoMemory (goes_on answer rest) made t t
+stopped_ends answer rest t made front = record {
   replies = [];
-  taken = took_nothing t0 t1 same;
+  taken = Appends-nil t;
   came = record {
     turns = [];
     later = (goes_on answer rest).turns;
     whole = refl;
     answered = λ answered. absurd (unanswered 12 (omega arith) answered);
     replied = λ other. refl;
-    taken = λ other memory. absurd (memory refl);
+    taken = λ fault other memory. absurd (memory refl);
     cut = λ five. absurd (omega (arith, five));
+    unread = λ four. absurd (omega (arith, four));
     stopped = λ twelve. (made, refl, next_takings answer rest made front);
   };
   last = λ answered. absurd (unanswered 12 (omega arith) answered);
-} where
-  next_takings : (answer : Answer) (rest : Turn → Run) (made : List Taking) → IsFront made (answer_takings answer) → IsFront made (made_in (take 1 (goes_on answer rest).turns))
-  next_takings (Goes turn) rest made front = subst (λ (zs : List Taking). IsFront made zs) (sym (append-nil turn.takings)) front
-  next_takings (Ends number at w takings) rest made front = subst (λ (zs : List Taking). IsFront made zs) (sym (append-nil takings)) front
+}
 
-bad_ends : (n m at place : ℕ) (entries : List FoundEntry) (w : World) (outcome : Result Line ℕ) (later : List (List ℕ)) (rest : Turn → Run) (t0 t1 : Option (List ℕ)) → m ≡ n → outcome ≡ Err place → place ≡ at → t1 ≡ t0
-    → EndsSo (BadLine m at) (goes_on (answer_if n entries w outcome later) rest) [] t0 t1
-bad_ends n m at place entries w outcome later rest t0 t1 number bad same taken =
-    let run : Run = goes_on (answer_if n entries w (Err place) later) rest in
-    subst (λ (o : Result Line ℕ). EndsSo (BadLine m at) (goes_on (answer_if n entries w o later) rest) [] t0 t1) (sym bad) (record {
+unread_ends : (answer : Answer) (rest : Turn → Run) (t : Option (List ℕ)) (made : List Taking) → IsFront made (answer_takings answer) → fills_of made ≡ [] → EndsSo ReadFault (goes_on answer rest) made t t
+unread_ends answer rest t made front none = record {
+  replies = [];
+  taken = Appends-nil t;
+  came = record {
+    turns = [];
+    later = (goes_on answer rest).turns;
+    whole = refl;
+    answered = λ answered. absurd (unanswered 4 (omega arith) answered);
+    replied = λ other. refl;
+    taken = λ fault other memory. absurd (fault refl);
+    cut = λ five. absurd (omega (arith, five));
+    unread = λ four. (made, refl, next_takings answer rest made front, none);
+    stopped = λ twelve. absurd (omega (arith, twelve));
+  };
+  last = λ answered. absurd (unanswered 4 (omega arith) answered);
+}
+
+bad_ends : (answer : Answer) (rest : Turn → Run) (number at : ℕ) (t : Option (List ℕ)) (made : List Taking) → HaltsIn (halts.BadLine number at) answer made → EndsSo (BadLine number at) (goes_on answer rest) made t t
+bad_ends (Goes turn) rest number at t made said = absurd said
+bad_ends (Ends m place w takings) rest number at t made said =
+    let run : Run = goes_on (Ends m place w takings) rest in
+    record {
       replies = [];
-      taken = took_nothing t0 t1 taken;
-      came = came_all run 3 (omega arith) refl;
-      last = λ answered. ap (λ k. bad_line k place) (sym number) ∙ ap (λ k. bad_line m k) same;
-    })
+      taken = Appends-nil t;
+      came = subst (λ (zs : List Taking). Came run 3 [] zs) (append-nil takings ∙ sym said.2) (came_all run 3 (omega arith) refl);
+      last = λ answered. ap (λ k. bad_line k place) said.0 ∙ ap (λ k. bad_line number k) said.1;
+    }
 
-one_line_ends : (e : Ending) (n : ℕ) (outcome : Result Line ℕ) (entries : List FoundEntry) (w : World) (new : Option World) (later : List (List ℕ)) (rest : Turn → Run) (t0 t1 : Option (List ℕ)) (made : List Taking)
-    → Replied (Some e) n outcome entries w new t0 t1 made → EndsSo e (goes_on (answer_if n entries w outcome later) rest) made t0 t1
-one_line_ends Done n outcome entries w new later rest t0 t1 made replied = absurd replied
-one_line_ends Usage n outcome entries w new later rest t0 t1 made replied = absurd replied
-one_line_ends ReadFault n outcome entries w new later rest t0 t1 made replied = absurd replied
-one_line_ends WriteFault n outcome entries w new later rest t0 t1 made replied = cut_ends (answer_if n entries w outcome later) rest t0 t1 made (replied later)
-one_line_ends NoMemory n outcome entries w new later rest t0 t1 made replied = stopped_ends (answer_if n entries w outcome later) rest t0 t1 made replied.0 (replied.1 later)
-one_line_ends (BadLine number at) n outcome entries w new later rest t0 t1 made replied =
-    subst (λ (zs : List Taking). EndsSo (BadLine number at) (goes_on (answer_if n entries w outcome later) rest) zs t0 t1) (sym replied.3)
-    (bad_ends n number at at entries w outcome later rest t0 t1 replied.0 replied.1 refl replied.2)
+one_line_ends : (e : Ending) (answer : Answer) (rest : Turn → Run) (new : Option World) (t0 t1 : Option (List ℕ)) (made : List Taking) → Replied (Some e) answer new t0 t1 made → EndsSo e (goes_on answer rest) made t0 t1
+one_line_ends Done answer rest new t0 t1 made replied = absurd replied
+one_line_ends Usage answer rest new t0 t1 made replied = absurd replied
+one_line_ends WriteFault answer rest new t0 t1 made replied = cut_ends answer rest t0 t1 made replied
+one_line_ends ReadFault answer rest new t0 t1 made replied =
+    subst (λ (t : Option (List ℕ)). EndsSo ReadFault (goes_on answer rest) made t0 t) (sym replied.0) (unread_ends answer rest t0 made replied.1.0 replied.1.1)
+one_line_ends NoMemory answer rest new t0 t1 made replied =
+    subst (λ (t : Option (List ℕ)). EndsSo NoMemory (goes_on answer rest) made t0 t) (sym replied.0) (stopped_ends answer rest t0 made replied.1)
+one_line_ends (BadLine number at) answer rest new t0 t1 made replied =
+    subst (λ (t : Option (List ℕ)). EndsSo (BadLine number at) (goes_on answer rest) made t0 t) (sym replied.0) (bad_ends answer rest number at t0 made replied.1)
 
-line_ran_as : (r : Option Ending) (n : ℕ) (line bytes rest : List ℕ) (left : Option (List ℕ)) (found : List FoundEntry) (w : World) (new : Option World) (t0 t1 : Option (List ℕ)) (made : List Taking) → n ≤ 1048576 → length line ≤ 65536
-    → left ≡ Some rest → lines bytes ≡ line ∷ lines rest → Replied r n (line_of line 0) (entries_of n found) w new t0 t1 made → LineRan r n bytes left found w new t0 t1 made
-line_ran_as None n line bytes rest left found w new t0 t1 made few short told takes replied =
-    rw (told, takes, checked_line n line few short)
-    (one_line_goes (answer_if n (entries_of n found) w (line_of line 0) (lines rest)) (λ turn. run_within (length (lines rest)) (n + turn.lines) (drop turn.lines (line ∷ lines rest)) found turn.world)
-    (λ v. run_from (n + 1) (lines rest) found v) new t0 t1 made
-    (λ turn one. ap (λ k. run_within (length (lines rest)) (n + k) (drop k (line ∷ lines rest)) found turn.world) one) (replied (lines rest)))
-line_ran_as (Some e) n line bytes rest left found w new t0 t1 made few short told takes replied =
-    rw (takes, checked_line n line few short)
-    (one_line_ends e n (line_of line 0) (entries_of n found) w new (lines rest) (λ turn. run_within (length (lines rest)) (n + turn.lines) (drop turn.lines (line ∷ lines rest)) found turn.world) t0 t1 made replied)
+-- ---- the next line
 
-pub line_ran : (told left : Option (List ℕ)) (n : ℕ) (line : List ℕ) (r : Option Ending) (a b : Outer) (world new : Option World) (t0 t1 : Option (List ℕ)) → n ≤ 1048576 → length line ≤ 65536
-    → IfSome told (λ bytes. TakesLine line bytes left) → Acts n a b (λ made. WhereTold world made (λ entries w. Replied r n (line_of line 0) entries w new t0 t1 made))
-    → Acts n a b (λ made. IfSome told (λ bytes. WhereTold world made (λ found w. LineRan r n bytes left found w new t0 t1 made)))
-line_ran told left n line r a b world new t0 t1 few short takes acts = record { made = acts.made; takes = acts.takes; said = said told left takes } where
-  said : (told left : Option (List ℕ)) → IfSome told (λ bytes. TakesLine line bytes left) → IfSome told (λ bytes. WhereTold world acts.made (λ found w. LineRan r n bytes left found w new t0 t1 acts.made))
-  said None left takes = tt
-  said (Some bytes) None takes = absurd takes
-  said (Some bytes) (Some rest) takes = λ found agrees.
-      on_told world (λ w. Replied r n (line_of line 0) (entries_of n found) w new t0 t1 acts.made) (λ w. LineRan r n bytes (Some rest) found w new t0 t1 acts.made)
-      (λ w replied. line_ran_as r n line bytes rest (Some rest) found w new t0 t1 acts.made few short refl takes replied)
-      (acts.said (entries_of n found) (agrees_own n found acts.made acts.takes.lines agrees))
+abbrev with_lines : ℕ → List (List ℕ) → Script
+with_lines next ahead = record { next = next; ahead = ahead }
+
+-- a script that is told, by its lines
+told_lines : (told : ToldScript) (script : Script) → script_told told ≡ Some script → (told.ahead ≡ Some script.ahead) × (script ≡ with_lines told.next script.ahead)
+told_lines told script is = by_ahead told.ahead is where
+  by_ahead : (ahead : Option (List (List ℕ))) → option_map (with_lines told.next) ahead ≡ Some script → (ahead ≡ Some script.ahead) × (script ≡ with_lines told.next script.ahead)
+  by_ahead None same = absurd (cc)
+  by_ahead (Some lines) same =
+      let is : with_lines told.next lines ≡ script = cc in
+      (ap (λ (s : Script). Some s.ahead) is, sym is ∙ ap (λ (s : Script). with_lines told.next s.ahead) is)
+
+taken_of : (line : List ℕ) (ahead : List (List ℕ)) (next : ℕ) (after : ToldScript) → IsSomeAnd after.ahead (λ later. ahead ≡ line ∷ later) → after.next ≡ next
+    → (later : List (List ℕ)) × (ahead ≡ line ∷ later) × (script_told after ≡ Some (with_lines next later))
+taken_of line ahead next after taken same = by_after after.ahead taken where
+  by_after : (left : Option (List (List ℕ))) → IsSomeAnd left (λ later. ahead ≡ line ∷ later) → (later : List (List ℕ)) × (ahead ≡ line ∷ later) × (option_map (with_lines after.next) left ≡ Some (with_lines next later))
+  by_after None taken = absurd taken
+  by_after (Some later) taken = (later, taken, ap (λ k. Some (with_lines k later)) same)
+
+-- the run from a line on, by the line's answer
+run_is : (found : List FoundEntry) (p : Plain) (files : List (List ℕ × List ℕ)) (left : List ℕ) (n : ℕ) (line : List ℕ) (later : List (List ℕ)) (outcome : Result Line ℕ) → checked n line ≡ outcome
+    → run_from found (world_of p files left (with_lines n (line ∷ later)))
+    ≡ goes_on (answer_if n (entries_of n found) (world_of p files left (with_lines (n + 1) later)) outcome) (λ turn. run_within (length later) found turn.world)
+run_is found p files left n line later outcome is =
+    ap (λ (o : Result Line ℕ). goes_on (answer_if n (entries_of n found) (world_of p files left (with_lines (n + 1) later)) o) (λ turn. run_within (length later) found turn.world)) is
+
+line_ran_as : (r : Option Ending) (found : List FoundEntry) (w : World) (answer : Answer) (k : ℕ) (new : Option World) (t0 t1 : Option (List ℕ)) (made : List Taking) → AnswerWithin k answer
+    → run_from found w ≡ goes_on answer (λ turn. run_within k found turn.world) → Replied r answer new t0 t1 made → LineRan r found w new t0 t1 made
+line_ran_as None found w answer k None t0 t1 made within is replied = one_line_goes k found answer None t0 t1 made within replied
+line_ran_as None found w answer k (Some v) t0 t1 made within is replied =
+    subst (λ (run : Run). GoesOn run (run_from found v) made t0 t1) (sym is) (one_line_goes k found answer (Some v) t0 t1 made within replied)
+line_ran_as (Some e) found w answer k new t0 t1 made within is replied =
+    subst (λ (run : Run). EndsSo e run made t0 t1) (sym is) (one_line_ends e answer (λ turn. run_within k found turn.world) new t0 t1 made replied)
+
+-- a line of this number, which a script may have
+abbrev pub Here : ℕ → ℕ → Type 0
+Here n line = (line ≡ n) × (line ≤ 1048576)
+
+pub line_ran : (p : Plain) (a b : Outer) (before after : ToldScript) (line : List ℕ) (r : Option Ending) (new : Option World) (t0 t1 : Option (List ℕ)) → IsNextLine line before after
+    → Acts before.next a b (λ made. WhereTold (told_world p a after) made (λ entries w. Replied r (answer_if before.next entries w (line_of line 0)) new t0 t1 made))
+    → RunsFrom (Here before.next) a b (λ found made. IfSome (told_world p a before) (λ w. LineRan r found w new t0 t1 made))
+line_ran p a b before after line r new t0 t1 is acts = record {
+  made = acts.made;
+  takes = takes_weaker (λ m. m ≡ before.next) (Here before.next) acts.made a b (λ m same. (same, omega (arith, same, is.few))) acts.takes;
+  said = λ found agrees. told_each p a before (λ w. LineRan r found w new t0 t1 acts.made) (λ files left script f e s.
+      let n : ℕ = before.next in
+      let lines = told_lines before script s in
+      let there = taken_of line script.ahead (n + 1) after (told_at before.ahead script.ahead (λ ahead. IsSomeAnd after.ahead (λ later. ahead ≡ line ∷ later)) lines.0 is.taken) is.next in
+      let later : List (List ℕ) = there.0 in
+      let here : World = world_of p files left (with_lines (n + 1) later) in
+      let whole : script ≡ with_lines n (line ∷ later) = lines.1 ∙ ap (with_lines n) there.1 in
+      let replied : Replied r (answer_if n (entries_of n found) here (line_of line 0)) new t0 t1 acts.made =
+      told_at (told_world p a after) here (λ w. Replied r (answer_if n (entries_of n found) w (line_of line 0)) new t0 t1 acts.made) (told_of p a after files left (with_lines (n + 1) later) f e there.2)
+      (acts.said (entries_of n found) (agrees_own n found acts.made acts.takes.lines agrees)) in
+      line_ran_as r found (world_of p files left script) (answer_if n (entries_of n found) here (line_of line 0)) (length later) new t0 t1 acts.made
+      (answer_within n (entries_of n found) here (line_of line 0))
+      (ap (λ (x : Script). run_from found (world_of p files left x)) whole ∙ run_is found p files left n line later (line_of line 0) (limit_within n line (λ at. Err at) (line_of line 0) is.few is.short)) replied);
+}
 
 -- where no line is taken the run ends
 
-no_line_ends : (e : Ending) (n : ℕ) (bytes : List ℕ) (left : Option (List ℕ)) (found : List FoundEntry) (w : World) (t : Option (List ℕ)) → n ≤ 1048576 → TakesNone e n bytes left → EndsSo e (run_from n (lines bytes) found w) [] t t
-no_line_ends Done n bytes left found w t few none =
-    rw none.0 (record { replies = []; taken = Appends-nil t; came = came_all (record { turns = []; status = 0; last = [] }) 0 (omega arith) refl; last = λ answered. refl })
-no_line_ends (BadLine m at) n bytes left found w t few none =
-    let within : nat_lt 1048576 n ≡ false = grind (arith, nat_tests) in
-    let long : nat_lt 65536 (length none.2) ≡ true = let past : 65536 < length none.2 = none.5 in grind (arith, nat_tests) in
-    let bad : checked n none.2 ≡ Err 65536 = rw (within, long) refl in
-    subst (λ (ls : List (List ℕ)). EndsSo (BadLine m at) (run_from n ls found w) [] t t) (sym none.4)
-    (bad_ends n m at 65536 (entries_of n found) w (checked n none.2) none.3 (λ turn. run_within (length none.3) (n + turn.lines) (drop turn.lines (none.2 ∷ none.3)) found turn.world) t t none.0 bad (sym none.1) refl)
-no_line_ends ReadFault n bytes left found w t few none = read_fault_ends (run_from n (lines bytes) found w) t
-no_line_ends NoMemory n bytes left found w t few none = no_memory_ends (run_from n (lines bytes) found w) t
-no_line_ends Usage n bytes left found w t few none = absurd none
-no_line_ends WriteFault n bytes left found w t few none = absurd none
+run_over_ends : (t : Option (List ℕ)) → EndsSo Done run_over [] t t
+run_over_ends t = record { replies = []; taken = Appends-nil t; came = came_all run_over 0 (omega arith) refl; last = λ answered. refl }
 
-pub line_not_taken : (told left : Option (List ℕ)) (e : Ending) (n : ℕ) (outer : Outer) (world : Option World) (t : Option (List ℕ)) → n ≤ 1048576 → IfSome told (λ bytes. TakesNone e n bytes left)
-    → Acts n outer outer (λ made. IfSome told (λ bytes. WhereTold world made (λ found w. LineRan (Some e) n bytes left found w world t t made)))
-line_not_taken told left e n outer world t few none = record { made = []; takes = takes_none (λ line. line ≡ n) outer; said = said told none } where
-  each : (bytes : List ℕ) (found : List FoundEntry) (world : Option World) → TakesNone e n bytes left → IfSome world (λ w. EndsSo e (run_from n (lines bytes) found w) [] t t)
-  each bytes found None none = tt
-  each bytes found (Some w) none = no_line_ends e n bytes left found w t few none
+no_line_ends : (e : Ending) (p : Plain) (files : List (List ℕ × List ℕ)) (left : List ℕ) (n : ℕ) (ahead : List (List ℕ)) (after : ToldScript) (found : List FoundEntry) (t : Option (List ℕ)) → NoLine e n ahead after.ahead
+    → EndsSo e (run_from found (world_of p files left (with_lines n ahead))) [] t t
+no_line_ends Done p files left n ahead after found t none =
+    subst (λ (ls : List (List ℕ)). EndsSo Done (run_from found (world_of p files left (with_lines n ls))) [] t t) (sym none.0) (run_over_ends t)
+no_line_ends (BadLine number at) p files left n ahead after found t none =
+    let line : List ℕ = none.1 in
+    let later : List (List ℕ) = none.2 in
+    let here : World = world_of p files left (with_lines (n + 1) later) in
+    subst (λ (ls : List (List ℕ)). EndsSo (BadLine number at) (run_from found (world_of p files left (with_lines n ls))) [] t t) (sym none.3)
+    (subst (λ (run : Run). EndsSo (BadLine number at) run [] t t) (sym (run_is found p files left n line later (Err at) (limit_bad n line at (λ place. Err place) (line_of line 0) none.4)))
+    (bad_ends (Ends n at here []) (λ turn. run_within (length later) found turn.world) number at t [] (sym none.0, refl, refl)))
+no_line_ends ReadFault p files left n ahead after found t none = read_fault_ends (run_from found (world_of p files left (with_lines n ahead))) t
+no_line_ends NoMemory p files left n ahead after found t none = no_memory_ends (run_from found (world_of p files left (with_lines n ahead))) t
+no_line_ends Usage p files left n ahead after found t none = absurd none
+no_line_ends WriteFault p files left n ahead after found t none = absurd none
 
-  said : (told : Option (List ℕ)) → IfSome told (λ bytes. TakesNone e n bytes left) → IfSome told (λ bytes. WhereTold world [] (λ found w. LineRan (Some e) n bytes left found w world t t []))
-  said None none = tt
-  said (Some bytes) none = λ found agrees. each bytes found world none
+none_taken : (e : Ending) (before after : ToldScript) (ahead : List (List ℕ)) → before.ahead ≡ Some ahead → NoneTaken e before after → NoLine e before.next ahead after.ahead
+none_taken Usage before after ahead told none = absurd none
+none_taken WriteFault before after ahead told none = absurd none
+none_taken Done before after ahead told none = told_at before.ahead ahead (λ ls. NoLine Done before.next ls after.ahead) told none
+none_taken (BadLine number at) before after ahead told none = told_at before.ahead ahead (λ ls. NoLine (BadLine number at) before.next ls after.ahead) told none
+none_taken ReadFault before after ahead told none = tt
+none_taken NoMemory before after ahead told none = tt
 
--- past the last line that a script may have
-
-past_ends : (line : List ℕ) (rest : List (List ℕ)) (bytes : List ℕ) (found : List FoundEntry) (w : World) (t : Option (List ℕ)) → lines bytes ≡ line ∷ rest → EndsSo (BadLine 1048577 0) (run_from 1048577 (lines bytes) found w) [] t t
-past_ends line rest bytes found w t e =
-    subst (λ (ls : List (List ℕ)). EndsSo (BadLine 1048577 0) (run_from 1048577 ls found w) [] t t) (sym e)
-    (bad_ends 1048577 1048577 0 0 (entries_of 1048577 found) w (checked 1048577 line) rest (λ turn. run_within (length rest) (1048577 + turn.lines) (drop turn.lines (line ∷ rest)) found turn.world) t t refl refl refl refl)
-
-pub long_line_past : (told : Option (List ℕ)) → IfSome told (λ bytes. 65536 < length (first_line bytes))
-    → IfSome told (λ bytes. (found : List FoundEntry) → (w : World) → (t : Option (List ℕ)) → EndsSo (BadLine 1048577 0) (run_from 1048577 (lines bytes) found w) [] t t)
-long_line_past None long = tt
-long_line_past (Some bytes) long = λ found w t. let there = too_long bytes long in past_ends there.0 there.1 bytes found w t there.2
-
-pub line_past : (told : Option (List ℕ)) (line : List ℕ) → IfSome told (λ bytes. Some line ≡ next_line bytes)
-    → IfSome told (λ bytes. (found : List FoundEntry) → (w : World) → (t : Option (List ℕ)) → EndsSo (BadLine 1048577 0) (run_from 1048577 (lines bytes) found w) [] t t)
-line_past None line next = tt
-line_past (Some bytes) line next = λ found w t. past_ends line (lines (rest_of bytes)) bytes found w t (lines_next bytes ∙ rw (← next) refl)
-
-pub all_read_ends : (told : Option (List ℕ)) → IfSome told (λ bytes. None ≡ next_line bytes)
-    → IfSome told (λ bytes. (found : List FoundEntry) → (w : World) → (t : Option (List ℕ)) → EndsSo Done (run_from 1048577 (lines bytes) found w) [] t t)
-all_read_ends None next = tt
-all_read_ends (Some []) next = λ found w t. record { replies = []; taken = Appends-nil t; came = came_all (record { turns = []; status = 0; last = [] }) 0 (omega arith) refl; last = λ answered. refl }
-all_read_ends (Some (byte ∷ bytes)) next = absurd (cc)
-
-pub stopped_past : (e : Ending) (told : Option (List ℕ)) → ((run : Run) (t : Option (List ℕ)) → EndsSo e run [] t t)
-    → IfSome told (λ bytes. (found : List FoundEntry) → (w : World) → (t : Option (List ℕ)) → EndsSo e (run_from 1048577 (lines bytes) found w) [] t t)
-stopped_past e None ends = tt
-stopped_past e (Some bytes) ends = λ found w t. ends (run_from 1048577 (lines bytes) found w) t
+pub line_not_taken : (e : Ending) (p : Plain) (a : Outer) (before after : ToldScript) (new : Option World) (t : Option (List ℕ)) → NoneTaken e before after
+    → RunsFrom (Here before.next) a a (λ found made. IfSome (told_world p a before) (λ w. LineRan (Some e) found w new t t made))
+line_not_taken e p a before after new t none = record {
+  made = [];
+  takes = takes_none (Here before.next) a;
+  said = λ found agrees. told_each p a before (λ w. LineRan (Some e) found w new t t []) (λ files left script f ee s.
+      let lines = told_lines before script s in
+      subst (λ (x : Script). EndsSo e (run_from found (world_of p files left x)) [] t t) (sym lines.1)
+      (no_line_ends e p files left before.next script.ahead after found t (none_taken e before after script.ahead lines.0 none)));
+}
 
 -- ---- many lines
 
--- a run from its first line on has come to line n, with these bytes unread and in this world
-abbrev pub HasReached : (first n : ℕ) (told now : Option (List ℕ)) (start here : Option World) (t0 t1 : Option (List ℕ)) → List FoundEntry → List Taking → Type 0
-HasReached first n told now start here t0 t1 found made =
-    IfSome told (λ bytes. IfSome start (λ w. IsSomeAnd now (λ rest. IsSomeAnd here (λ v. GoesOn (run_from first (lines bytes) found w) (run_from n (lines rest) found v) made t0 t1))))
+-- lines before this one, which a script may have
+abbrev pub Before : ℕ → ℕ → Type 0
+Before n line = (line < n) × (line ≤ 1048576)
 
-pub reached_none : (first : ℕ) (here : ℕ → Type 0) (outer : Outer) (told : Option (List ℕ)) (start : Option World) (t : Option (List ℕ)) → RunsFrom here outer outer (HasReached first first told told start start t t)
-reached_none first here outer told start t = record { made = []; takes = takes_none here outer; said = λ found agrees. each found told start } where
-  each : (found : List FoundEntry) (told : Option (List ℕ)) (start : Option World) → HasReached first first told told start start t t found []
-  each found None start = tt
-  each found (Some bytes) None = tt
-  each found (Some bytes) (Some w) = goes_none (run_from first (lines bytes) found w) t
+-- a run from its first line on has come to this world
+abbrev pub HasReached : (start here : Option World) (t0 t1 : Option (List ℕ)) → List FoundEntry → List Taking → Type 0
+HasReached start here t0 t1 found made = IfSome start (λ w. IsSomeAnd here (λ v. GoesOn (run_from found w) (run_from found v) made t0 t1))
 
-more_reached : (first n : ℕ) (told now left : Option (List ℕ)) (start here after : Option World) (t0 t1 t2 : Option (List ℕ)) (found : List FoundEntry) (xs ys : List Taking) → HasReached first n told now start here t0 t1 found xs
-    → IfSome now (λ bytes. IfSome here (λ w. LineRan None n bytes left found w after t1 t2 ys)) → HasReached first (n + 1) told left start after t0 t2 found (xs ++ ys)
-more_reached first n None now left start here after t0 t1 t2 found xs ys p q = tt
-more_reached first n (Some bytes) now left None here after t0 t1 t2 found xs ys p q = tt
-more_reached first n (Some bytes) None left (Some w) here after t0 t1 t2 found xs ys p q = absurd p
-more_reached first n (Some bytes) (Some rest) left (Some w) None after t0 t1 t2 found xs ys p q = absurd p
-more_reached first n (Some bytes) (Some rest) None (Some w) (Some v) after t0 t1 t2 found xs ys p q = absurd q
-more_reached first n (Some bytes) (Some rest) (Some more) (Some w) (Some v) None t0 t1 t2 found xs ys p q = absurd q
-more_reached first n (Some bytes) (Some rest) (Some more) (Some w) (Some v) (Some u) t0 t1 t2 found xs ys p q =
-    goes_more (run_from first (lines bytes) found w) (run_from n (lines rest) found v) (run_from (n + 1) (lines more) found u) xs ys t0 t1 t2 p q
+pub reached_none : (n : ℕ) (outer : Outer) (start : Option World) (t : Option (List ℕ)) → RunsFrom (Before n) outer outer (HasReached start start t t)
+reached_none n outer start t = record { made = []; takes = takes_none (Before n) outer; said = λ found agrees. each found start } where
+  each : (found : List FoundEntry) (start : Option World) → HasReached start start t t found []
+  each found None = tt
+  each found (Some w) = goes_none (run_from found w) t
 
-pub reached_more : (first n : ℕ) (told now left : Option (List ℕ)) (start here after : Option World) (t0 t1 t2 : Option (List ℕ)) (a b c : Outer)
-    → RunsFrom (λ line. line < n) a b (HasReached first n told now start here t0 t1)
-    → Acts n b c (λ made. IfSome now (λ bytes. WhereTold here made (λ found w. LineRan None n bytes left found w after t1 t2 made)))
-    → RunsFrom (λ line. line < n + 1) a c (HasReached first (n + 1) told left start after t0 t2)
-reached_more first n told now left start here after t0 t1 t2 a b c p q = record {
+more_reached : (start here after : Option World) (t0 t1 t2 : Option (List ℕ)) (found : List FoundEntry) (xs ys : List Taking) → HasReached start here t0 t1 found xs → IfSome here (λ w. LineRan None found w after t1 t2 ys)
+    → HasReached start after t0 t2 found (xs ++ ys)
+more_reached None here after t0 t1 t2 found xs ys p q = tt
+more_reached (Some w) None after t0 t1 t2 found xs ys p q = absurd p
+more_reached (Some w) (Some v) None t0 t1 t2 found xs ys p q = absurd q
+more_reached (Some w) (Some v) (Some u) t0 t1 t2 found xs ys p q = goes_more (run_from found w) (run_from found v) (run_from found u) xs ys t0 t1 t2 p q
+
+pub reached_more : (n m : ℕ) (start here after : Option World) (t0 t1 t2 : Option (List ℕ)) (a b c : Outer) → n < m → RunsFrom (Before n) a b (HasReached start here t0 t1)
+    → RunsFrom (Here n) b c (λ found made. IfSome here (λ w. LineRan None found w after t1 t2 made)) → RunsFrom (Before m) a c (HasReached start after t0 t2)
+reached_more n m start here after t0 t1 t2 a b c more p q = record {
   made = p.made ++ q.made;
-  takes = takes_more (λ line. line < n) (λ line. line ≡ n) (λ line. line < n + 1) p.made q.made a b c (λ m below. omega (arith, below)) (λ m same. omega (arith, same)) (λ m k below same. omega (arith, below, same)) p.takes q.takes;
+  takes = takes_more (Before n) (Here n) (Before m) p.made q.made a b c (λ k below. (omega (arith, below.0, more), below.1)) (λ k same. (omega (arith, same.0, more), same.1)) (λ k j below same. omega (arith, below.0, same.0)) p.takes q.takes;
   said = λ found agrees.
-      more_reached first n told now left start here after t0 t1 t2 found p.made q.made
+      more_reached start here after t0 t1 t2 found p.made q.made
       (p.said found (all_first (λ taking. has_entry taking.entry found ≡ taking.fails) p.made q.made agrees))
-      (of_each found now (all_second (λ taking. has_entry taking.entry found ≡ taking.fails) p.made q.made agrees) q.said);
-} where
-  of_each : (found : List FoundEntry) (now : Option (List ℕ)) → Agrees found q.made → IfSome now (λ bytes. WhereTold here q.made (λ found w. LineRan None n bytes left found w after t1 t2 q.made))
-      → IfSome now (λ bytes. IfSome here (λ w. LineRan None n bytes left found w after t1 t2 q.made))
-  of_each found None agrees said = tt
-  of_each found (Some bytes) agrees said = said found agrees
-
-end_reached : (e : Ending) (first n : ℕ) (told now left : Option (List ℕ)) (start here after : Option World) (t0 t1 t2 : Option (List ℕ)) (found : List FoundEntry) (xs ys : List Taking) → HasReached first n told now start here t0 t1 found xs
-    → IfSome now (λ bytes. IfSome here (λ w. LineRan (Some e) n bytes left found w after t1 t2 ys)) → IfSome told (λ bytes. IfSome start (λ w. EndsSo e (run_from first (lines bytes) found w) (xs ++ ys) t0 t2))
-end_reached e first n None now left start here after t0 t1 t2 found xs ys p q = tt
-end_reached e first n (Some bytes) now left None here after t0 t1 t2 found xs ys p q = tt
-end_reached e first n (Some bytes) None left (Some w) here after t0 t1 t2 found xs ys p q = absurd p
-end_reached e first n (Some bytes) (Some rest) left (Some w) None after t0 t1 t2 found xs ys p q = absurd p
-end_reached e first n (Some bytes) (Some rest) left (Some w) (Some v) after t0 t1 t2 found xs ys p q =
-    goes_ends e (run_from first (lines bytes) found w) (run_from n (lines rest) found v) xs ys t0 t1 t2 p q
-
-pub reached_end : (e : Ending) (first n : ℕ) (told now left : Option (List ℕ)) (start here after : Option World) (t0 t1 t2 : Option (List ℕ)) (a b c : Outer) → n ≤ 1048576
-    → RunsFrom (λ line. line < n) a b (HasReached first n told now start here t0 t1)
-    → Acts n b c (λ made. IfSome now (λ bytes. WhereTold here made (λ found w. LineRan (Some e) n bytes left found w after t1 t2 made)))
-    → RunsFrom (λ line. line ≤ 1048576) a c (λ found made. IfSome told (λ bytes. IfSome start (λ w. EndsSo e (run_from first (lines bytes) found w) made t0 t2)))
-reached_end e first n told now left start here after t0 t1 t2 a b c few p q = record {
-  made = p.made ++ q.made;
-  takes = takes_more (λ line. line < n) (λ line. line ≡ n) (λ line. line ≤ 1048576) p.made q.made a b c (λ m below. omega (arith, below, few)) (λ m same. omega (arith, same, few)) (λ m k below same. omega (arith, below, same)) p.takes q.takes;
-  said = λ found agrees.
-      end_reached e first n told now left start here after t0 t1 t2 found p.made q.made
-      (p.said found (all_first (λ taking. has_entry taking.entry found ≡ taking.fails) p.made q.made agrees))
-      (of_each found now (all_second (λ taking. has_entry taking.entry found ≡ taking.fails) p.made q.made agrees) q.said);
-} where
-  of_each : (found : List FoundEntry) (now : Option (List ℕ)) → Agrees found q.made → IfSome now (λ bytes. WhereTold here q.made (λ found w. LineRan (Some e) n bytes left found w after t1 t2 q.made))
-      → IfSome now (λ bytes. IfSome here (λ w. LineRan (Some e) n bytes left found w after t1 t2 q.made))
-  of_each found None agrees said = tt
-  of_each found (Some bytes) agrees said = said found agrees
-
-limit_reached : (e : Ending) (first : ℕ) (told now : Option (List ℕ)) (start here : Option World) (t0 t1 : Option (List ℕ)) (found : List FoundEntry) (xs : List Taking) → HasReached first 1048577 told now start here t0 t1 found xs
-    → IfSome now (λ bytes. (found : List FoundEntry) → (w : World) → (t : Option (List ℕ)) → EndsSo e (run_from 1048577 (lines bytes) found w) [] t t)
-    → IfSome told (λ bytes. IfSome start (λ w. EndsSo e (run_from first (lines bytes) found w) xs t0 t1))
-limit_reached e first None now start here t0 t1 found xs p q = tt
-limit_reached e first (Some bytes) now None here t0 t1 found xs p q = tt
-limit_reached e first (Some bytes) None (Some w) here t0 t1 found xs p q = absurd p
-limit_reached e first (Some bytes) (Some rest) (Some w) None t0 t1 found xs p q = absurd p
-limit_reached e first (Some bytes) (Some rest) (Some w) (Some v) t0 t1 found xs p q =
-    subst (λ (zs : List Taking). EndsSo e (run_from first (lines bytes) found w) zs t0 t1) (append-nil xs)
-    (goes_ends e (run_from first (lines bytes) found w) (run_from 1048577 (lines rest) found v) xs [] t0 t1 t1 p (q found v t1))
-
-pub reached_limit : (e : Ending) (first : ℕ) (told now : Option (List ℕ)) (start here : Option World) (t0 t1 : Option (List ℕ)) (a b : Outer) → RunsFrom (λ line. line < 1048577) a b (HasReached first 1048577 told now start here t0 t1)
-    → IfSome now (λ bytes. (found : List FoundEntry) → (w : World) → (t : Option (List ℕ)) → EndsSo e (run_from 1048577 (lines bytes) found w) [] t t)
-    → RunsFrom (λ line. line ≤ 1048576) a b (λ found made. IfSome told (λ bytes. IfSome start (λ w. EndsSo e (run_from first (lines bytes) found w) made t0 t1)))
-reached_limit e first told now start here t0 t1 a b p q = record {
-  made = p.made;
-  takes = takes_weaker (λ line. line < 1048577) (λ line. line ≤ 1048576) p.made a b (λ m below. omega (arith, below)) p.takes;
-  said = λ found agrees. limit_reached e first told now start here t0 t1 found p.made (p.said found agrees) q;
+      (q.said found (all_second (λ taking. has_entry taking.entry found ≡ taking.fails) p.made q.made agrees));
 }
 
--- a run that found no memory to begin
+end_reached : (e : Ending) (start here after : Option World) (t0 t1 t2 : Option (List ℕ)) (found : List FoundEntry) (xs ys : List Taking) → HasReached start here t0 t1 found xs → IfSome here (λ w. LineRan (Some e) found w after t1 t2 ys)
+    → IfSome start (λ w. EndsSo e (run_from found w) (xs ++ ys) t0 t2)
+end_reached e None here after t0 t1 t2 found xs ys p q = tt
+end_reached e (Some w) None after t0 t1 t2 found xs ys p q = absurd p
+end_reached e (Some w) (Some v) after t0 t1 t2 found xs ys p q = goes_ends e (run_from found w) (run_from found v) xs ys t0 t1 t2 p q
 
-pub no_memory_runs : (outer : Outer) (told : Option (List ℕ)) (start : Option World) (t : Option (List ℕ))
-    → RunsFrom (λ line. line ≤ 1048576) outer outer (λ found made. IfSome told (λ bytes. IfSome start (λ w. EndsSo NoMemory (run_from 1 (lines bytes) found w) made t t)))
-no_memory_runs outer told start t = record { made = []; takes = takes_none (λ line. line ≤ 1048576) outer; said = λ found agrees. each found told start } where
-  each : (found : List FoundEntry) (told : Option (List ℕ)) (start : Option World) → IfSome told (λ bytes. IfSome start (λ w. EndsSo NoMemory (run_from 1 (lines bytes) found w) [] t t))
-  each found None start = tt
-  each found (Some bytes) None = tt
-  each found (Some bytes) (Some w) = no_memory_ends (run_from 1 (lines bytes) found w) t
+pub reached_end : (e : Ending) (n : ℕ) (start here after : Option World) (t0 t1 t2 : Option (List ℕ)) (a b c : Outer) → RunsFrom (Before n) a b (HasReached start here t0 t1)
+    → RunsFrom (Here n) b c (λ found made. IfSome here (λ w. LineRan (Some e) found w after t1 t2 made))
+    → RunsFrom (λ line. line ≤ 1048576) a c (λ found made. IfSome start (λ w. EndsSo e (run_from found w) made t0 t2))
+reached_end e n start here after t0 t1 t2 a b c p q = record {
+  made = p.made ++ q.made;
+  takes = takes_more (Before n) (Here n) (λ line. line ≤ 1048576) p.made q.made a b c (λ k below. below.1) (λ k same. same.1) (λ k j below same. omega (arith, below.0, same.0)) p.takes q.takes;
+  said = λ found agrees.
+      end_reached e start here after t0 t1 t2 found p.made q.made
+      (p.said found (all_first (λ taking. has_entry taking.entry found ≡ taking.fails) p.made q.made agrees))
+      (q.said found (all_second (λ taking. has_entry taking.entry found ≡ taking.fails) p.made q.made agrees));
+}
+
+-- ---- the whole run
+
+unread_nil : (left : Option (List ℕ)) → unread [] left ≡ left
+unread_nil None = refl
+unread_nil (Some bytes) = refl
 
 -- a run from the reader's first byte on, over a host that holds nothing
 pub script_runs : (e : Ending) (keys : Plain) (reader : List ℕ) (left : Option (List ℕ)) (t0 t1 : Option (List ℕ)) (a b : Outer) → reader ≡ [] → keys ≡ no_keys
-    → RunsFrom (λ line. line ≤ 1048576) a b (λ found made. IfSome (unread reader left) (λ bytes. IfSome (told_world keys a) (λ w. EndsSo e (run_from 1 (lines bytes) found w) made t0 t1)))
-    → RunsFrom (λ line. line ≤ 1048576) a b (λ found made. IfSome left (λ bytes. IfSome (told_world no_keys a) (λ w. EndsSo e (run_from 1 (lines bytes) found w) made t0 t1)))
-script_runs e keys reader left t0 t1 a b empty none p = record {
-  made = p.made;
-  takes = p.takes;
-  said = λ found agrees.
-      let from : List ℕ → Plain → Type 0 = λ reader keys. IfSome (unread reader left) (λ bytes. IfSome (told_world keys a) (λ w. EndsSo e (run_from 1 (lines bytes) found w) p.made t0 t1)) in
-      each found left (subst (λ (r : List ℕ). from r no_keys) empty (subst (λ (k : Plain). from reader k) none (p.said found agrees)));
-} where
-  each : (found : List FoundEntry) (left : Option (List ℕ)) → IfSome (unread [] left) (λ bytes. IfSome (told_world no_keys a) (λ w. EndsSo e (run_from 1 (lines bytes) found w) p.made t0 t1))
-      → IfSome left (λ bytes. IfSome (told_world no_keys a) (λ w. EndsSo e (run_from 1 (lines bytes) found w) p.made t0 t1))
-  each found None said = tt
-  each found (Some bytes) said = said
+    → RunsFrom (λ line. line ≤ 1048576) a b (λ found made. IfSome (told_world keys a (script_of 1 (unread reader left))) (λ w. EndsSo e (run_from found w) made t0 t1))
+    → RunsFrom (λ line. line ≤ 1048576) a b (λ found made. IfSome (told_world no_keys a (script_of 1 left)) (λ w. EndsSo e (run_from found w) made t0 t1))
+script_runs e keys reader left t0 t1 a b empty none p =
+    let from : Plain → Option (List ℕ) → Type 0 = λ k told. RunsFrom (λ line. line ≤ 1048576) a b (λ found made. IfSome (told_world k a (script_of 1 told)) (λ w. EndsSo e (run_from found w) made t0 t1)) in
+    subst (from no_keys) (ap (λ (r : List ℕ). unread r left) empty ∙ unread_nil left) (subst (λ (k : Plain). from k (unread reader left)) none p)
 
-pub words_run : {W : Type 0} (words : List W) (e : Ending) (script : Option (List ℕ)) (world : Option World) (t0 t1 : Option (List ℕ)) (a b : Outer) → length words < 1
-    → RunsFrom (λ line. line ≤ 1048576) a b (λ found made. IfSome script (λ bytes. IfSome world (λ w. EndsSo e (run_from 1 (lines bytes) found w) made t0 t1)))
-    → RunsFrom (λ line. line ≤ 1048576) a b (λ found made. IfSome script (λ bytes. IfSome world (λ w. EndsSo e (transcript words bytes found w) made t0 t1)))
-words_run [] e script world t0 t1 a b none p = p
-words_run (word ∷ words) e script world t0 t1 a b none p = absurd (omega (arith, none))
+pub words_run : {W : Type 0} (words : List W) (e : Ending) (world : Option World) (t0 t1 : Option (List ℕ)) (a b : Outer) → words ≡ []
+    → RunsFrom (λ line. line ≤ 1048576) a b (λ found made. IfSome world (λ w. EndsSo e (run_from found w) made t0 t1))
+    → RunsFrom (λ line. line ≤ 1048576) a b (λ found made. IfSome world (λ w. EndsSo e (transcript words found w) made t0 t1))
+words_run [] e world t0 t1 a b none p = p
+words_run (word ∷ words) e world t0 t1 a b none p = absurd (cc)
 
--- a faulty command line
-pub words_usage : {W : Type 0} (words : List W) (script : Option (List ℕ)) (world : Option World) (t : Option (List ℕ)) (outer : Outer) → 1 ≤ length words
-    → RunsFrom (λ line. line ≤ 1048576) outer outer (λ found made. IfSome script (λ bytes. IfSome world (λ w. EndsSo Usage (transcript words bytes found w) made t t)))
-words_usage [] script world t outer some = absurd (omega (arith, some))
-words_usage (word ∷ words) script world t outer some = record { made = []; takes = takes_none (λ line. line ≤ 1048576) outer; said = λ found agrees. each found script world } where
-  each : (found : List FoundEntry) (script : Option (List ℕ)) (world : Option World) → IfSome script (λ bytes. IfSome world (λ w. EndsSo Usage (transcript (word ∷ words) bytes found w) [] t t))
-  each found None world = tt
-  each found (Some bytes) None = tt
-  each found (Some bytes) (Some w) = record {
-    replies = [];
-    taken = Appends-nil t;
-    came = came_all (transcript (word ∷ words) bytes found w) 2 (omega arith) refl;
-    last = λ answered. refl;
-  }
+-- a run that doesn't begin
+not_begun : {W : Type 0} (e : Ending) (words : List W) (found : List FoundEntry) (w : World) (t : Option (List ℕ)) → StartsNot e words → EndsSo e (transcript words found w) [] t t
+not_begun Usage [] found w t starts = absurd (starts refl)
+not_begun Usage (word ∷ words) found w t starts = record {
+  replies = [];
+  taken = Appends-nil t;
+  came = came_all (transcript (word ∷ words) found w) 2 (omega arith) refl;
+  last = λ answered. refl;
+}
+not_begun NoMemory words found w t starts = no_memory_ends (transcript words found w) t
+not_begun Done words found w t starts = absurd starts
+not_begun (BadLine number at) words found w t starts = absurd starts
+not_begun ReadFault words found w t starts = absurd starts
+not_begun WriteFault words found w t starts = absurd starts
+
+pub words_not_run : {W : Type 0} (e : Ending) (words : List W) (world : Option World) (t : Option (List ℕ)) (outer : Outer) → StartsNot e words
+    → RunsFrom (λ line. line ≤ 1048576) outer outer (λ found made. IfSome world (λ w. EndsSo e (transcript words found w) made t t))
+words_not_run e words world t outer starts = record { made = []; takes = takes_none (λ line. line ≤ 1048576) outer; said = λ found agrees. each found world } where
+  each : (found : List FoundEntry) (world : Option World) → IfSome world (λ w. EndsSo e (transcript words found w) [] t t)
+  each found None = tt
+  each found (Some w) = not_begun e words found w t starts
+
+-- where the script is told it was read to its end
+pub end_told : (e : Ending) (first before after : ToldScript) → (is_some first.ahead ≡ true → is_some before.ahead ≡ true) → GoesPast (Some e) before after → e ≡ Done → IfSome first.ahead (λ ahead. after.ahead ≡ Some [])
+end_told e first before after stays past done = by_first first.ahead before.ahead stays (let here : GoesPast (Some Done) before after = subst (λ (x : Ending). GoesPast (Some x) before after) done past in here) where
+  by_first : (a b : Option (List (List ℕ))) → (is_some a ≡ true → is_some b ≡ true) → IfSome b (λ ahead. after.ahead ≡ Some []) → IfSome a (λ ahead. after.ahead ≡ Some [])
+  by_first None b stays end = tt
+  by_first (Some ahead) None stays end = absurd (let none : false ≡ true = stays refl in cc)
+  by_first (Some ahead) (Some more) stays end = end

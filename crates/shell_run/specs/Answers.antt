@@ -1,8 +1,8 @@
 -- What the calls that carry out a line say of their answers.
-use Rattle.std.specs.Prelude.{◌≡◌, ◌≢◌, ℕ, ◌≤◌, Bool, true, false, ◌||◌, is_some, take, drop, List, ◌++◌, [], IfSome, Result, Ok, Err}
+use Rattle.std.specs.Prelude.{◌≡◌, ℕ, ◌≤◌, Bool, true, false, ◌||◌, is_some, take, drop, List, ◌++◌, [], IfSome, IsSomeAnd, Result, Ok, Err}
 use Rattle.std.specs.declared.alloc.AllocError.{AllocError}
 use Rattle.std.specs.declared.option.Option.{Option}
-use Rattle.std.specs.declared.option.Option.TheVariants.{Some}
+use Rattle.std.specs.declared.option.Option.TheVariants.{Some, None}
 use Rattle.std.specs.List.{AllByRecursion}
 use Rattle.std.specs.Option.{option_map}
 use Rattle.edge_io.specs.Counts.{one_more}
@@ -25,17 +25,43 @@ use Rattle.key_machine.specs.Fair.{WasAsked, SeedWasAsked}
 use Rattle.key_machine.specs.Reply.{Reply, Done, Made, Text, Refused, Reaped, Skipped}
 use Rattle.key_machine.specs.Told.{Wanted}
 use Rattle.key_store.specs.declared.needs.Needs.{Needs}
-use Rattle.shell_lines.specs.declared.line.Line.{Line}
 use Rattle.shell_lines.specs.declared.line.LineStop.{LineStop}
 use Rattle.shell_lines.specs.declared.line.LineStop.TheVariants as line_stops
 use Rattle.shell_run.specs.declared.command.Shown.{Shown}
 use Rattle.shell_run.specs.declared.command.Shown.TheVariants as shows
+use Rattle.shell_run.specs.declared.ending.Halt.{Halt}
+use Rattle.shell_run.specs.declared.ending.Halt.TheVariants.{BadLine, ReadFault, NoMemory}
 use Rattle.shell_run.specs.declared.found.FoundEntry.{FoundEntry}
 use Rattle.shell_run.specs.Outer.{Calls, Outer, Takes}
 use Rattle.shell_run.specs.Ran.{IsFront}
-use Rattle.shell_run.specs.Takings.{Taking, has_entry}
+use Rattle.shell_run.specs.Script.{Script, ToldScript, Given, Gives, Stops, prompted, script_told}
+use Rattle.shell_run.specs.Takings.{Taking, has_entry, fills_of}
 use Rattle.shell_run.specs.Texts.{ok_line, text_line, error_line}
-use Rattle.shell_run.specs.Transcript.{World, Spot, fetch_at, material_at, fill_at, seed_from, takings_of, kit_of, Commanded, commanded, refused_at_once, Turn, turn_of, Answer, Goes, Ends, answer_of, answer_if}
+use Rattle.shell_run.specs.Transcript.{World, Spot, fetch_at, material_at, fill_at, seed_from, Supply, Has, Lacks, kit_of, Commanded, Outcome, Does, Halts, commanded, refused_at_once, Turn, Answer, Goes, Ends, answered}
+
+-- ---- the script
+
+-- the count of faults of the script's source over a part of a line: it rose where a read failed, and else stayed
+abbrev pub HaltFaults : Option Halt → (before now : ℕ) → Type 0
+HaltFaults (Some ReadFault) before now = (before ≤ now) × Rose before now
+HaltFaults halt before now = now ≡ before
+
+-- A part of a line has read the script: the number of the next line doesn't fall, and what was told still is, where the run goes on.
+pub record Reads (halt : Option Halt) (old new : ToldScript) (before now : ℕ) : Type 0 where
+  pub later : old.next ≤ new.next
+  pub told : halt ≡ None → is_some old.ahead ≡ true → is_some new.ahead ≡ true
+  pub faults : HaltFaults halt before now
+
+-- a prompt gave this material
+abbrev pub PromptGives : (material : List ℕ) → ToldScript → ToldScript → Type 0
+PromptGives material old new =
+    IfSome (script_told old) (λ script. IsSomeAnd (script_told new) (λ left. prompted script ≡ Gives material left))
+
+-- a prompt ended the run
+abbrev pub PromptStops : Halt → ToldScript → Type 0
+PromptStops (BadLine number at) old = IfSome (script_told old) (λ script. prompted script ≡ Stops number at)
+PromptStops ReadFault old = Unit {0}
+PromptStops NoMemory old = Unit {0}
 
 -- ---- takings
 
@@ -84,12 +110,16 @@ pub record IsCalled (known : Option Bool) (fails : Bool) (old new : Calls) : Typ
 abbrev pub taking_with : FoundEntry → Bool → Taking
 taking_with entry fails = record { entry = entry; fails = fails }
 
--- the material at a place was taken, as this entry
-abbrev pub Fetches : Result Fetched AllocError → FoundEntry → Option Location → Option (List (List ℕ × List ℕ)) → List Taking → Type 0
-Fetches (Ok fetched) entry place files made =
+-- the material at a place was taken, as this entry, or a prompt ends the run
+abbrev pub Fetches : Result Fetched Halt → FoundEntry → Option Location → Option (List (List ℕ × List ℕ)) → (old new : ToldScript) → List Taking → Type 0
+Fetches (Ok fetched) entry place files old new made =
     (made ≡ fetch_at (taking_with entry (is_fault fetched)) place)
-    × IfSome files (λ files. fetched ≡ material_at (taking_with entry (is_fault fetched)) files place)
-Fetches (Err stop) entry place files made = IsFront made (fetch_at (taking_with entry false) place)
+    × IfSome files (λ files. IfSome (script_told old) (λ script. IsSomeAnd (script_told new) (λ left.
+    material_at (taking_with entry (is_fault fetched)) files script place ≡ Gives fetched left)))
+Fetches (Err (BadLine number at)) entry place files old new made =
+    (made ≡ []) × IfSome files (λ files. IfSome (script_told old) (λ script. material_at (taking_with entry false) files script place ≡ Stops number at))
+Fetches (Err ReadFault) entry place files old new made = made ≡ []
+Fetches (Err NoMemory) entry place files old new made = IsFront made (fetch_at (taking_with entry false) place)
 
 -- a seed was taken, if it was wanted
 abbrev pub Fills : Result SeedGot AllocError → FoundEntry → Bool → Option (List ℕ) → List Taking → Type 0
@@ -112,14 +142,21 @@ wants_of needs = record { old_place = needs.old_place; new_place = needs.new_pla
 abbrev pub spot_of : ℕ → List FoundEntry → Spot
 spot_of n entries = record { line = n; part = 0; entries = entries }
 
--- what is wanted was taken
-abbrev pub GivesKit : Result LineKit AllocError → Spot → List (List ℕ × List ℕ) → List ℕ → Wanted → List Taking → Type 0
-GivesKit (Ok kit) spot files left wants made = (kit ≡ kit_of spot files left wants) × (made ≡ takings_of spot left wants)
-GivesKit (Err stop) spot files left wants made = IsFront made (takings_of spot left wants)
+abbrev pub supply_takings : Supply → List Taking
+supply_takings (Has kit left takings) = takings
+supply_takings (Lacks number at takings) = takings
 
-abbrev pub TakesKit : Result LineKit AllocError → ℕ → Wanted → List FoundEntry → Outer → List Taking → Type 0
-TakesKit result n wants entries outer made =
-    IfSome outer.files (λ files. IfSome outer.entropy (λ left. GivesKit result (spot_of n entries) files left wants made))
+-- what is wanted was taken, and this is left of the script; or the run is over in the midst of that
+abbrev pub GivesKit : Result LineKit Halt → Supply → Option Script → List Taking → Type 0
+GivesKit (Ok kit) supply new made = IsSomeAnd new (λ left. supply ≡ Has kit left made)
+GivesKit (Err (BadLine number at)) supply new made = supply ≡ Lacks number at made
+GivesKit (Err ReadFault) supply new made = IsFront made (supply_takings supply) × (fills_of made ≡ [])
+GivesKit (Err NoMemory) supply new made = IsFront made (supply_takings supply)
+
+abbrev pub TakesKit : Result LineKit Halt → ℕ → Wanted → List FoundEntry → Outer → (old new : ToldScript) → List Taking → Type 0
+TakesKit result n wants entries outer old new made =
+    IfSome outer.files (λ files. IfSome outer.entropy (λ left. IfSome (script_told old) (λ script.
+    GivesKit result (kit_of (spot_of n entries) files left script wants) (script_told new) made)))
 
 -- a kit has what is wanted
 pub record HasWanted (needs : Needs) (kit : LineKit) : Type 0 where
@@ -129,14 +166,23 @@ pub record HasWanted (needs : Needs) (kit : LineKit) : Type 0 where
 
 -- ---- a command
 
--- the record size of a create, where it has one, is in form
-abbrev pub HasSize : KeyCmd → Type 0
-HasSize (commands.Create name opts) = IfSome opts.block IsRecordSize
-HasSize command = Unit {0}
+-- A command that a line of the language may give: the record size of a create, where it has one, is in form, and no line changes a key yet.
+abbrev pub IsOfLine : KeyCmd → Type 0
+IsOfLine (commands.Create name opts) = IfSome opts.block IsRecordSize
+IsOfLine (commands.Load name check_only place) = Unit {0}
+IsOfLine (commands.Unload name) = Unit {0}
+IsOfLine (commands.Change name opts load_first) = ⊥
+IsOfLine (commands.Inherit name load_first) = ⊥
+IsOfLine (commands.Mount name) = ⊥
+IsOfLine (commands.Unmount name) = ⊥
+IsOfLine (commands.Get name prop) = Unit {0}
+IsOfLine (commands.Clone from name) = ⊥
+IsOfLine (commands.Receive name props wrapped block) = ⊥
+IsOfLine (commands.Destroy name snaps) = ⊥
 
-abbrev pub IsSized : Result KeyCmd Stop → Type 0
-IsSized (Ok command) = HasSize command
-IsSized (Err stop) = Unit {0}
+abbrev pub AreOfLine : Result KeyCmd Stop → Type 0
+AreOfLine (Ok command) = IsOfLine command
+AreOfLine (Err stop) = Unit {0}
 
 abbrev pub IsDone : Reply → Type 0
 IsDone Done = Unit {0}
@@ -153,51 +199,58 @@ Replies (Ok (shows.Text text)) reply = reply ≡ Text text
 Replies (Err (stops.Refused why)) reply = reply ≡ Refused why
 Replies (Err stops.NoMemory) reply = Unit {0}
 
--- a command was carried out as it is defined, or memory was wanting in the midst of its takings or behind them
-abbrev pub Executes : Result Shown Stop → Commanded → Option World → List Taking → Type 0
-Executes (Ok shown) done new made = Replies (Ok shown) done.reply × (new ≡ Some done.world) × (made ≡ done.takings)
-Executes (Err (stops.Refused why)) done new made = Replies (Err (stops.Refused why)) done.reply × (new ≡ Some done.world) × (made ≡ done.takings)
-Executes (Err stops.NoMemory) done new made = IsFront made done.takings
-
--- ---- a line
-
--- a turn was taken, or memory was wanting in its midst
-abbrev pub HasTurn : Result (Unit {0}) AllocError → Turn → Option World → (before after : List ℕ) → List Taking → Type 0
-HasTurn (Ok done) turn new before after made = (new ≡ Some turn.world) × (after ≡ before ++ turn.output) × (made ≡ turn.takings)
-HasTurn (Err stop) turn new before after made = IsFront made turn.takings
-
--- a command, or the refusal in place of one, was answered as line n
-abbrev pub Commands : Result (Unit {0}) AllocError → ℕ → Result KeyCmd Stop → List FoundEntry → World → Option World → (before after : List ℕ) → List Taking → Type 0
-Commands result n (Ok command) entries w new before after made = HasTurn result (turn_of n (commanded (spot_of n entries) w command)) new before after made
-Commands result n (Err (stops.Refused why)) entries w new before after made = HasTurn result (turn_of n (refused_at_once w why)) new before after made
-Commands result n (Err stops.NoMemory) entries w new before after made = (made ≡ []) × (result ≢ Ok tt)
-
--- what is printed of a result, want of memory apart
-abbrev pub shown_output : ℕ → List Row → Result Shown Why → List ℕ
-shown_output n rows (Ok shows.Done) = ok_line n
-shown_output n rows (Ok (shows.Text text)) = text_line n text
-shown_output n rows (Err why) = error_line n rows why
-
-abbrev pub Shows : ℕ → List Row → Result Shown Stop → (before after : List ℕ) → Type 0
-Shows n rows (Ok shown) before after = after ≡ before ++ shown_output n rows (Ok shown)
-Shows n rows (Err (stops.Refused why)) before after = after ≡ before ++ shown_output n rows (Err why)
-Shows n rows (Err stops.NoMemory) before after = ⊥
-
--- a line had the turn that answers it, and took no other line
-abbrev pub HasAnswer : Result (Unit {0}) AllocError → Answer → Option World → (before after : List ℕ) → List Taking → Type 0
-HasAnswer result (Goes turn) new before after made = HasTurn result turn new before after made × (turn.lines ≡ 1)
-HasAnswer result (Ends number at w takings) new before after made = ⊥
-
-abbrev pub CarriesOut : Result (Unit {0}) AllocError → ℕ → Line → List FoundEntry → World → Option World → (before after : List ℕ) → List Taking → Type 0
-CarriesOut result n line entries w new before after made = (later : List (List ℕ)) → HasAnswer result (answer_of n entries w line later) new before after made
+-- want of memory ends the run
+abbrev pub settled : Result Shown Stop → Result (Result Shown Why) Halt
+settled (Ok shown) = Ok (Ok shown)
+settled (Err (stops.Refused why)) = Ok (Err why)
+settled (Err stops.NoMemory) = Err NoMemory
 
 -- the takings of an answer, whichever it is
 abbrev pub answer_takings : Answer → List Taking
 answer_takings (Goes turn) = turn.takings
 answer_takings (Ends number at w takings) = takings
 
--- bytes that spell this outcome were answered
-abbrev pub AnswersTo : Result (Unit {0}) LineStop → ℕ → Result Line ℕ → List FoundEntry → World → Option World → (before after : List ℕ) → List Taking → Type 0
-AnswersTo (Ok done) n outcome entries w new before after made = (later : List (List ℕ)) → HasAnswer (Ok done) (answer_if n entries w outcome later) new before after made
-AnswersTo (Err (line_stops.Bad at)) n outcome entries w new before after made = (outcome ≡ Err at) × (made ≡ [])
-AnswersTo (Err line_stops.NoMemory) n outcome entries w new before after made = (later : List (List ℕ)) → IsFront made (answer_takings (answer_if n entries w outcome later))
+-- The run is over in the midst of a line that has this answer. A fault of the script comes before the line's seed.
+abbrev pub HaltsIn : Halt → Answer → List Taking → Type 0
+HaltsIn (BadLine number at) (Goes turn) made = ⊥
+HaltsIn (BadLine number at) (Ends m place w takings) made = (m ≡ number) × (place ≡ at) × (made ≡ takings)
+HaltsIn ReadFault answer made = IsFront made (answer_takings answer) × (fills_of made ≡ [])
+HaltsIn NoMemory answer made = IsFront made (answer_takings answer)
+
+-- a command of line n was carried out as it is defined, or the run is over in the midst of it
+abbrev pub Executes : Result (Result Shown Why) Halt → ℕ → Outcome → Option World → List Taking → Type 0
+Executes (Ok (Ok shown)) n (Does done) new made = Replies (Ok shown) done.reply × (new ≡ Some done.world) × (made ≡ done.takings)
+Executes (Ok (Err why)) n (Does done) new made = (done.reply ≡ Refused why) × (new ≡ Some done.world) × (made ≡ done.takings)
+Executes (Ok (Ok shown)) n (Halts number at w takings) new made = ⊥
+Executes (Ok (Err why)) n (Halts number at w takings) new made = ⊥
+Executes (Err halt) n outcome new made = HaltsIn halt (answered n outcome) made
+
+-- ---- a line
+
+-- a line had its turn, or the run is over in the midst of it
+abbrev pub HasAnswer : Result (Unit {0}) Halt → Answer → Option World → (before after : List ℕ) → List Taking → Type 0
+HasAnswer (Ok done) (Goes turn) new before after made = (new ≡ Some turn.world) × (after ≡ before ++ turn.output) × (made ≡ turn.takings)
+HasAnswer (Ok done) (Ends number at w takings) new before after made = ⊥
+HasAnswer (Err halt) answer new before after made = HaltsIn halt answer made
+
+-- a command, or the refusal in place of one, was answered as line n
+abbrev pub Commands : Result (Unit {0}) Halt → ℕ → Result KeyCmd Stop → List FoundEntry → World → Option World → (before after : List ℕ) → List Taking → Type 0
+Commands result n (Ok command) entries w new before after made = HasAnswer result (answered n (commanded (spot_of n entries) w command)) new before after made
+Commands result n (Err (stops.Refused why)) entries w new before after made = HasAnswer result (answered n (refused_at_once w why)) new before after made
+Commands result n (Err stops.NoMemory) entries w new before after made = (made ≡ []) × (result ≡ Err NoMemory)
+
+-- what is printed of a result
+abbrev pub shown_output : ℕ → List Row → Result Shown Why → List ℕ
+shown_output n rows (Ok shows.Done) = ok_line n
+shown_output n rows (Ok (shows.Text text)) = text_line n text
+shown_output n rows (Err why) = error_line n rows why
+
+-- a refusal in place of a command is printed; want of memory isn't
+abbrev pub ShowsStop : ℕ → List Row → Stop → (before after : List ℕ) → Type 0
+ShowsStop n rows (stops.Refused why) before after = after ≡ before ++ shown_output n rows (Err why)
+ShowsStop n rows stops.NoMemory before after = ⊥
+
+-- how the run ends whose line n has bytes that spell none
+abbrev pub unspelled : ℕ → LineStop → Halt
+unspelled n (line_stops.Bad at) = BadLine n at
+unspelled n line_stops.NoMemory = NoMemory

@@ -5,6 +5,8 @@ use Rattle.std.specs.declared.option.Option.TheVariants.{Some, None}
 use Rattle.edge_io.specs.Faults.{Rose}
 use Rattle.shell_run.specs.declared.ending.Ending.{Ending}
 use Rattle.shell_run.specs.declared.ending.Ending.TheVariants.{Done, Usage, BadLine, ReadFault, WriteFault, NoMemory}
+use Rattle.shell_run.specs.declared.ending.Halt.{Halt}
+use Rattle.shell_run.specs.declared.ending.Halt.TheVariants as halts
 use Rattle.shell_run.specs.Texts.{bad_line, usage_line, read_fault_line, no_memory_line}
 
 abbrev pub status_of : Ending → ℕ
@@ -14,6 +16,11 @@ status_of (BadLine number at) = 3
 status_of ReadFault = 4
 status_of WriteFault = 5
 status_of NoMemory = 12
+
+abbrev pub ending_of : Halt → Ending
+ending_of (halts.BadLine number at) = BadLine number at
+ending_of halts.ReadFault = ReadFault
+ending_of halts.NoMemory = NoMemory
 
 -- the line that is printed at the end
 abbrev pub closing_line : Ending → List ℕ
@@ -38,13 +45,3 @@ SinkFaults ending before now = now ≡ before
 abbrev pub ClosesAs : Ending → Ending → Type 0
 ClosesAs (BadLine number at) closed = (closed ≡ BadLine number at) ⊎ (closed ≡ NoMemory)
 ClosesAs ending closed = closed ≡ ending
-
--- a line that was taken goes on, or ends the run only by what it holds, its reply or want of memory
-abbrev pub EndsInLine : Option Ending → Type 0
-EndsInLine None = Unit {0}
-EndsInLine (Some (BadLine number at)) = Unit {0}
-EndsInLine (Some WriteFault) = Unit {0}
-EndsInLine (Some NoMemory) = Unit {0}
-EndsInLine (Some Done) = ⊥
-EndsInLine (Some Usage) = ⊥
-EndsInLine (Some ReadFault) = ⊥

@@ -1,4 +1,5 @@
 pub mod Texts
+pub mod Script
 pub mod Takings
 pub mod Outer
 pub mod Transcript

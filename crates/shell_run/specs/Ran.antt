@@ -29,10 +29,13 @@ pub record Came (run : Run) (status : ℕ) (replies : List ℕ) (made : List Tak
   pub whole : run.turns ≡ turns ++ later
   pub answered : IsAnswered status → (run.status ≡ status) × (later ≡ [])
   pub replied : status ≢ 5 → replies ≡ replies_of turns
-  pub taken : status ≢ 5 → status ≢ 12 → made ≡ made_in turns
+  pub taken : status ≢ 4 → status ≢ 5 → status ≢ 12 → made ≡ made_in turns
   -- the reply of the next turn was cut short
   pub cut : status ≡ 5 → (part : List ℕ) × (replies ≡ replies_of turns ++ part)
       × IsCut part (replies_of (take 1 later)) × (made ≡ made_in (turns ++ take 1 later))
+  -- the script failed at a prompt of the next turn's line, before its seed
+  pub unread : status ≡ 4 → (part : List Taking) × (made ≡ made_in turns ++ part)
+      × IsFront part (made_in (take 1 later)) × (fills_of part ≡ [])
   -- memory was wanting in the midst of the next turn
   pub stopped : status ≡ 12 → (part : List Taking) × (made ≡ made_in turns ++ part)
       × IsFront part (made_in (take 1 later))

@@ -30,6 +30,7 @@ use Rattle.shell_run.specs.declared.found.FoundEntry.{FoundEntry}
 use Rattle.shell_run.specs.declared.found.FoundKind.{FoundKind}
 use Rattle.shell_run.specs.declared.found.FoundKind.TheVariants.{OldKey, NewKey, Seed}
 use Rattle.shell_run.specs.Outer.{Outer, left_after}
+use Rattle.shell_run.specs.Script.{Script, ToldScript, Given, Gives, Stops, past_line, prompted, script_of, script_told, within_limits}
 use Rattle.shell_run.specs.Takings.{Taking, entries_of, has_entry, fills_of}
 use Rattle.shell_run.specs.Texts.{ok_line, text_line, error_line, set_line, bad_line, usage_line}
 
@@ -39,18 +40,22 @@ use Rattle.shell_run.specs.Texts.{ok_line, text_line, error_line, set_line, bad_
 pub record Host : Type 0 where
   pub keys : Plain
 
--- what a script works on: the present host, the key files, and the entropy that is left
+-- what a script works on: the present host, the key files, the entropy that is left, and what is left of the script
 pub record World : Type 0 where
   pub present : Host
   pub files : List (List ℕ × List ℕ)
   pub entropy : List ℕ
+  pub script : Script
 
-abbrev pub world_of : Plain → List (List ℕ × List ℕ) → List ℕ → World
-world_of keys files entropy = record { present = record { keys = keys }; files = files; entropy = entropy }
+abbrev pub world_of : Plain → List (List ℕ × List ℕ) → List ℕ → Script → World
+world_of keys files entropy script =
+    record { present = record { keys = keys }; files = files; entropy = entropy; script = script }
 
--- the world of this keystore, where key files and entropy are told
-abbrev pub told_world : Plain → Outer → Option World
-told_world keys outer = option_and_then (λ (files : List (List ℕ × List ℕ)). option_map (world_of keys files) outer.entropy) outer.files
+-- the world of this keystore, where key files, entropy and script are told
+abbrev pub told_world : Plain → Outer → ToldScript → Option World
+told_world keys outer script =
+    option_and_then (λ (files : List (List ℕ × List ℕ)). option_and_then (λ (left : List ℕ).
+    option_map (world_of keys files left) (script_told script)) outer.entropy) outer.files
 
 -- ---- what a command takes
 
@@ -70,7 +75,7 @@ taking_at spot what =
 abbrev pub seed_at : Spot → List ℕ → Taking
 seed_at spot left = let listed = taking_at spot Seed in record listed { fails = listed.fails || is_short left }
 
--- the taking is made where the place is a file; until prompts are built, nothing comes from one
+-- the taking is made where the place is a file
 abbrev pub fetch_at : Taking → Option Location → List Taking
 fetch_at taking None = []
 fetch_at taking (Some Prompt) = []
@@ -80,10 +85,14 @@ abbrev pub material_of : Option (List ℕ) → Fetched
 material_of None = fetches.Missing
 material_of (Some bytes) = fetches.Got bytes
 
-abbrev pub material_at : Taking → List (List ℕ × List ℕ) → Option Location → Fetched
-material_at taking files None = fetches.NotAsked
-material_at taking files (Some Prompt) = fetches.Got []
-material_at taking files (Some (File path)) = if taking.fails then fetches.Fault else material_of (fetched path files)
+abbrev pub at_prompt : Given (List ℕ) → Given Fetched
+at_prompt (Gives material left) = Gives (fetches.Got material) left
+at_prompt (Stops number at) = Stops number at
+
+abbrev pub material_at : Taking → List (List ℕ × List ℕ) → Script → Option Location → Given Fetched
+material_at taking files script None = Gives fetches.NotAsked script
+material_at taking files script (Some Prompt) = at_prompt (prompted script)
+material_at taking files script (Some (File path)) = Gives (if taking.fails then fetches.Fault else material_of (fetched path files)) script
 
 abbrev pub fill_at : Taking → Bool → List Taking
 fill_at taking false = []
@@ -98,12 +107,22 @@ abbrev pub takings_of : Spot → List ℕ → Wanted → List Taking
 takings_of spot left wants =
     fetch_at (taking_at spot OldKey) wants.old_place ++ fetch_at (taking_at spot NewKey) wants.new_place ++ fill_at (seed_at spot left) wants.seed
 
-abbrev pub kit_of : Spot → List (List ℕ × List ℕ) → List ℕ → Wanted → LineKit
-kit_of spot files left wants = record {
-  old_key = material_at (taking_at spot OldKey) files wants.old_place;
-  new_key = material_at (taking_at spot NewKey) files wants.new_place;
-  seed = seed_from (seed_at spot left) left wants.seed;
-}
+-- What a command takes: a kit, which leaves so much of the script; or a prompt ends the run, behind these takings.
+pub data Supply : Type 0 where
+  Has : (kit : LineKit) (left : Script) (takings : List Taking) → Supply
+  Lacks : (number at : ℕ) (takings : List Taking) → Supply
+
+abbrev pub with_new : Spot → List ℕ → Wanted → (old : Fetched) → Given Fetched → Supply
+with_new spot left wants old (Stops number at) = Lacks number at (fetch_at (taking_at spot OldKey) wants.old_place)
+with_new spot left wants old (Gives new script) =
+    Has (record { old_key = old; new_key = new; seed = seed_from (seed_at spot left) left wants.seed }) script (takings_of spot left wants)
+
+abbrev pub with_old : Spot → List (List ℕ × List ℕ) → List ℕ → Wanted → Given Fetched → Supply
+with_old spot files left wants (Stops number at) = Lacks number at []
+with_old spot files left wants (Gives old script) = with_new spot left wants old (material_at (taking_at spot NewKey) files script wants.new_place)
+
+abbrev pub kit_of : Spot → List (List ℕ × List ℕ) → List ℕ → Script → Wanted → Supply
+kit_of spot files left script wants = with_old spot files left wants (material_at (taking_at spot OldKey) files script wants.old_place)
 
 -- ---- a command
 
@@ -113,23 +132,27 @@ pub record Commanded : Type 0 where
   pub reply : Reply
   pub takings : List Taking
 
--- the machine's step under what the command takes
-abbrev pub taking : Spot → World → KeyCmd → Commanded
-taking spot w command =
-    let wants = wanted w.present.keys command in
-    let takings = takings_of spot w.entropy wants in
-    let step = stepped w.present.keys command (kit_of spot w.files w.entropy wants) in
-    record { world = world_of step.state w.files (left_after (fills_of takings) w.entropy); reply = step.reply; takings = takings }
+-- A command is carried out; or a prompt ends the run at a place of the line of this number, and leaves this world after these takings.
+pub data Outcome : Type 0 where
+  Does : (done : Commanded) → Outcome
+  Halts : (number at : ℕ) (world : World) (takings : List Taking) → Outcome
 
-abbrev pub refused_at_once : World → Refusal → Commanded
-refused_at_once w why = record { world = w; reply = Refused why; takings = [] }
+-- the machine's step under what the command has taken
+abbrev pub supplied : World → KeyCmd → Supply → Outcome
+supplied w command (Lacks number at takings) = Halts number at w takings
+supplied w command (Has kit left takings) =
+    let step = stepped w.present.keys command kit in
+    Does (record { world = world_of step.state w.files (left_after (fills_of takings) w.entropy) left; reply = step.reply; takings = takings })
+
+abbrev pub refused_at_once : World → Refusal → Outcome
+refused_at_once w why = Does (record { world = w; reply = Refused why; takings = [] })
 
 -- A command that the state refuses takes nothing.
-abbrev pub unless_refused : Spot → World → KeyCmd → Option Refusal → Commanded
+abbrev pub unless_refused : Spot → World → KeyCmd → Option Refusal → Outcome
 unless_refused spot w command (Some why) = refused_at_once w why
-unless_refused spot w command None = taking spot w command
+unless_refused spot w command None = supplied w command (kit_of spot w.files w.entropy w.script (wanted w.present.keys command))
 
-abbrev pub commanded : Spot → World → KeyCmd → Commanded
+abbrev pub commanded : Spot → World → KeyCmd → Outcome
 commanded spot w command = unless_refused spot w command (refusal_of w.present.keys command)
 
 -- the command on the dataset that a word names, or why it names none
@@ -137,20 +160,19 @@ abbrev pub command_named : (List ℕ → KeyCmd) → Result (List ℕ) Refusal �
 command_named command (Ok name) = Ok (command name)
 command_named command (Err why) = Err why
 
-abbrev pub commanded_if : Spot → World → Result KeyCmd Refusal → Commanded
+abbrev pub commanded_if : Spot → World → Result KeyCmd Refusal → Outcome
 commanded_if spot w (Ok command) = commanded spot w command
 commanded_if spot w (Err why) = refused_at_once w why
 
 -- ---- a line
 
--- a line's turn: what it leaves, what it prints, the takings that it makes, and how many lines of the script it took
+-- a line's turn: what it leaves, what it prints, and the takings that it makes
 pub record Turn : Type 0 where
   pub world : World
   pub output : List ℕ
   pub takings : List Taking
-  pub lines : ℕ
 
--- A line has its turn; or it ends the run at a place of the line of this number, which it took, and leaves this world after these takings.
+-- A line has its turn; or it ends the run at a place of the line of this number, and leaves this world after these takings.
 pub data Answer : Type 0 where
   Goes : (turn : Turn) → Answer
   Ends : (number at : ℕ) (world : World) (takings : List Taking) → Answer
@@ -164,40 +186,40 @@ reply_output n p (Refused why) = error_line n p.tree.rows why
 reply_output n p (Reaped dataset dropped) = []
 reply_output n p Skipped = []
 
-abbrev pub turn_of : ℕ → Commanded → Turn
-turn_of n done = record {
+-- the answer to line n by the outcome of its command
+abbrev pub answered : ℕ → Outcome → Answer
+answered n (Does done) = Goes (record {
   world = done.world;
   output = reply_output n done.world.present.keys done.reply;
   takings = done.takings;
-  lines = 1;
-}
+})
+answered n (Halts number at w takings) = Ends number at w takings
 
 -- a key command on the dataset that a word names
-abbrev pub key_turn : ℕ → List FoundEntry → World → (List ℕ → KeyCmd) → List ℕ → Turn
-key_turn n entries w command word =
-    turn_of n (commanded_if (record { line = n; part = 0; entries = entries }) w (command_named command (named word)))
+abbrev pub key_answer : ℕ → List FoundEntry → World → (List ℕ → KeyCmd) → List ℕ → Answer
+key_answer n entries w command word =
+    answered n (commanded_if (record { line = n; part = 0; entries = entries }) w (command_named command (named word)))
 
--- line n, with these lines behind it, where its own failed takings are these
-abbrev pub answer_of : ℕ → List FoundEntry → World → Line → (later : List (List ℕ)) → Answer
-answer_of n entries w Silent later = Goes (record { world = w; output = []; takings = []; lines = 1 })
-answer_of n entries w (Create word opts) later = Goes (key_turn n entries w (λ name. commands.Create name opts) word)
-answer_of n entries w (LoadKey word) later = Goes (key_turn n entries w (λ name. commands.Load name false None) word)
-answer_of n entries w (UnloadKey word) later = Goes (key_turn n entries w (λ name. commands.Unload name) word)
-answer_of n entries w (Get prop word) later = Goes (key_turn n entries w (λ name. commands.Get name prop) word)
-answer_of n entries w ListSets later = Goes (record {
+-- line n, taken from the world's script, where its own failed takings are these
+abbrev pub answer_of : ℕ → List FoundEntry → World → Line → Answer
+answer_of n entries w Silent = Goes (record { world = w; output = []; takings = [] })
+answer_of n entries w (Create word opts) = key_answer n entries w (λ name. commands.Create name opts) word
+answer_of n entries w (LoadKey word check_only place) = key_answer n entries w (λ name. commands.Load name check_only place) word
+answer_of n entries w (UnloadKey word) = key_answer n entries w (λ name. commands.Unload name) word
+answer_of n entries w (Get prop word) = key_answer n entries w (λ name. commands.Get name prop) word
+answer_of n entries w ListSets = Goes (record {
   world = w;
   output = flat_map (set_line n w.present.keys) w.present.keys.tree.rows ++ ok_line n;
   takings = [];
-  lines = 1;
 })
 
--- A script has at most 1048576 lines, each of at most 65536 bytes that spell a line of the language.
+-- the bytes spell a line of the language
 abbrev pub checked : ℕ → List ℕ → Result Line ℕ
-checked n bytes = if nat_lt 1048576 n then Err 0 else if nat_lt 65536 (length bytes) then Err 65536 else line_of bytes 0
+checked n bytes = within_limits n bytes (λ at. Err at) (line_of bytes 0)
 
-abbrev pub answer_if : ℕ → List FoundEntry → World → Result Line ℕ → List (List ℕ) → Answer
-answer_if n entries w (Ok line) later = answer_of n entries w line later
-answer_if n entries w (Err at) later = Ends n at w []
+abbrev pub answer_if : ℕ → List FoundEntry → World → Result Line ℕ → Answer
+answer_if n entries w (Ok line) = answer_of n entries w line
+answer_if n entries w (Err at) = Ends n at w []
 
 -- ---- a run
 
@@ -224,26 +246,33 @@ preceded turns run = record { turns = turns ++ run.turns; status = run.status; l
 abbrev pub goes_on : Answer → (Turn → Run) → Run
 goes_on (Goes turn) rest = preceded (turn ∷ []) (rest turn)
 goes_on (Ends number at w takings) rest =
-    record { turns = record { world = w; output = []; takings = takings; lines = 0 } ∷ []; status = 3; last = bad_line number at }
+    record { turns = record { world = w; output = []; takings = takings } ∷ []; status = 3; last = bad_line number at }
 
--- the lines from number n on, of which at most so many have their turn
-abbrev pub run_within : (bound n : ℕ) → List (List ℕ) → List FoundEntry → World → Run
-run_within bound n [] found w = record { turns = []; status = 0; last = [] }
-run_within zero n (bytes ∷ later) found w = record { turns = []; status = 0; last = [] }
-run_within (suc bound) n (bytes ∷ later) found w =
-    goes_on (answer_if n (entries_of n found) w (checked n bytes) later)
-    (λ turn. run_within bound (n + turn.lines) (drop turn.lines (bytes ∷ later)) found turn.world)
+abbrev pub run_over : Run
+run_over = record { turns = []; status = 0; last = [] }
 
-abbrev pub run_from : ℕ → List (List ℕ) → List FoundEntry → World → Run
-run_from n ls found w = run_within (length ls) n ls found w
+-- from the line on that stands next, where these are its lines
+abbrev pub run_before : List FoundEntry → World → List (List ℕ) → (Turn → Run) → Run
+run_before found w [] rest = run_over
+run_before found w (bytes ∷ later) rest =
+    let n = w.script.next in
+    goes_on (answer_if n (entries_of n found) (record w { script = past_line w.script later }) (checked n bytes)) rest
+
+-- the lines that are left of the world's script, of which at most so many have their turn
+abbrev pub run_within : (bound : ℕ) → List FoundEntry → World → Run
+run_within zero found w = run_over
+run_within (suc bound) found w = run_before found w w.script.ahead (λ turn. run_within bound found turn.world)
+
+-- each turn takes a line at least
+abbrev pub run_from : List FoundEntry → World → Run
+run_from found w = run_within (length w.script.ahead) found w
 
 -- The whole run under these words, from this world on, where these takings fail. No word is an option yet, so every one is a faulty
 -- command line.
-abbrev pub transcript : {W : Type 0} → List W → List ℕ → List FoundEntry → World → Run
-transcript [] script found w = run_from 1 (lines script) found w
-transcript (word ∷ words) script found w = record { turns = []; status = 2; last = usage_line }
+abbrev pub transcript : {W : Type 0} → List W → List FoundEntry → World → Run
+transcript [] found w = run_from found w
+transcript (word ∷ words) found w = record { turns = []; status = 2; last = usage_line }
 
 -- the run of a host that holds nothing, where script, key files and entropy are told
 abbrev pub told_transcript : {W : Type 0} → List W → Option (List ℕ) → Outer → List FoundEntry → Option Run
-told_transcript words script outer found =
-    option_and_then (λ (bytes : List ℕ). option_map (transcript words bytes found) (told_world no_keys outer)) script
+told_transcript words script outer found = option_map (transcript words found) (told_world no_keys outer (script_of 1 script))

@@ -1,16 +1,18 @@
 // A key command: what it takes, and what it does.
-ghost use Rattle.std.specs.Prelude.{◌≡◌, List, IfOk, is_some, true};
+ghost use Rattle.std.specs.Prelude.{◌≡◌, Err, List, IfOk, Ok, is_some, true};
+ghost use Rattle.std.specs.Result.{result_err};
 ghost use Rattle.edge_io.specs.Faults.{Rose};
 ghost use Rattle.key_machine.specs.Fair.{WasAsked};
 ghost use Rattle.key_store.specs.Calls.{stepped, state_after};
 ghost use Rattle.shell_run.specs.declared.found.FoundEntry.{FoundEntry};
-ghost use Rattle.shell_run.specs.Answers.{Acts, Agrees, Executes, Fetches, HasSize, HasWanted, Replies, TakesKit, WhereTold, spot_of, wants_of};
+ghost use Rattle.shell_run.specs.Answers.{Acts, Agrees, Executes, Fetches, IsOfLine, HasWanted, Reads, Replies, TakesKit, WhereTold, settled, spot_of, wants_of};
 ghost use Rattle.shell_run.specs.Takings.{is_fetch};
 ghost use Rattle.shell_run.specs.Transcript.{commanded, told_world};
 
+use crate::ending::Halt;
 use crate::found::{FoundEntry, FoundKind};
 use crate::outside::Outside;
-use dataset_tree::{NoMemory, Refusal, Stop};
+use dataset_tree::{Refusal, Stop};
 use encryption_roots::{Fetched, KeyCmd, LineKit, Location, PropText, SeedGot};
 use key_store::{KeyState, Needs};
 use std::alloc::Global;
@@ -22,39 +24,52 @@ pub(crate) enum Shown {
     Text(PropText),
 }
 
-/// Carries out a command of line `number`, with what it takes for it. Where the state refuses it, nothing is taken.
+/// Carries out a command of line `number`, with what it takes for it, or gives its refusal. Where the state refuses it, nothing is
+/// taken. An `Err` says that the run is over.
 pub(crate) fn execute<W: Outside>(
     alloc: Global,
     keys: &mut KeyState,
     outside: &mut W,
     number: u32,
     command: &KeyCmd,
-) -> Result<Shown, Stop>
-    requires { HasSize command.now }
+) -> Result<Result<Shown, Refusal>, Halt>
+    requires { IsOfLine command.now }
     ensures told { Acts number (W.told outside.old) (W.told outside.new) (λ made.
-        WhereTold (told_world keys.old (W.told outside.old)) made (λ entries w.
-        Executes result (commanded (spot_of number entries) w command.now) (told_world keys.new (W.told outside.new)) made)) }
+        WhereTold (told_world keys.old (W.told outside.old) (W.script outside.old)) made (λ entries w.
+        Executes result number (commanded (spot_of number entries) w command.now) (told_world keys.new (W.told outside.new) (W.script outside.new)) made)) }
+    ensures reads { Reads (result_err result) (W.script outside.old) (W.script outside.new) (W.faults outside.old) (W.faults outside.new) }
     // These two refusals come only where a taking for this line failed.
-    ensures key_fault { result ≡ Err (Stop.Refused Refusal.KeyFault) →
+    ensures key_fault { result ≡ Ok (Err Refusal.KeyFault) →
         Rose (W.told outside.old).fetches.faults (W.told outside.new).fetches.faults }
-    ensures entropy_fault { result ≡ Err (Stop.Refused Refusal.EntropyFault) →
+    ensures entropy_fault { result ≡ Ok (Err Refusal.EntropyFault) →
         Rose (W.told outside.old).fills.faults (W.told outside.new).fills.faults }
     ensures holds { W.holds outside.new ≡ W.holds outside.old }
 {
     let needs = match keys.needs(command) {
         Ok(needs) => needs,
-        Err(stop) => return Err(stop),
+        Err(stop) => return settle(Err(stop)),
     };
     let kit = match take_kit(alloc, outside, number, &needs) {
         Ok(kit) => kit,
-        Err(_) => return Err(Stop::NoMemory),
+        Err(halt) => return Err(halt),
     };
-    carry(keys, command, &kit)
+    settle(carry(keys, command, &kit))
 }
 
-/// Carries out a command with its kit.
+/// What is shown, or a refusal; want of memory ends the run.
+fn settle(answer: Result<Shown, Stop>) -> Result<Result<Shown, Refusal>, Halt>
+    ensures { result ≡ settled answer }
+{
+    match answer {
+        Ok(shown) => Ok(Ok(shown)),
+        Err(Stop::Refused(why)) => Ok(Err(why)),
+        Err(Stop::NoMemory) => Err(Halt::NoMemory),
+    }
+}
+
+/// Carries out a command with its kit. No line gives any of the last ones yet.
 fn carry(keys: &mut KeyState, command: &KeyCmd, kit: &LineKit) -> Result<Shown, Stop>
-    requires { HasSize command.now }
+    requires { IsOfLine command.now }
     ensures reply { Replies result (stepped keys.old command.now kit.now).reply }
     ensures state { keys.new ≡ state_after result keys.old (stepped keys.old command.now kit.now).state }
 {
@@ -85,19 +100,21 @@ fn carry(keys: &mut KeyState, command: &KeyCmd, kit: &LineKit) -> Result<Shown, 
         | KeyCmd::Unmount { .. }
         | KeyCmd::Clone { .. }
         | KeyCmd::Receive { .. }
-        | KeyCmd::Destroy { .. } => Err(Stop::Refused(Refusal::BadOptions)),
+        | KeyCmd::Destroy { .. } => unreachable!(),
     }
 }
 
-/// Takes the present key, the new key and a seed, each that is needed, whatever the others gave.
+/// Takes the present key, the new key and a seed, each that is needed, whatever the others gave. Where a prompt ends the run, what
+/// stands behind it isn't taken.
 fn take_kit<W: Outside>(
     alloc: Global,
     outside: &mut W,
     number: u32,
     needs: &Needs,
-) -> Result<LineKit, NoMemory>
+) -> Result<LineKit, Halt>
     ensures takes { Acts number (W.told outside.old) (W.told outside.new) (λ made. (entries : List FoundEntry) → Agrees entries made →
-        TakesKit result number (wants_of needs.now) entries (W.told outside.old) made) }
+        TakesKit result number (wants_of needs.now) entries (W.told outside.old) (W.script outside.old) (W.script outside.new) made) }
+    ensures reads { Reads (result_err result) (W.script outside.old) (W.script outside.new) (W.faults outside.old) (W.faults outside.new) }
     ensures asked { IfOk result (λ kit. HasWanted needs.now kit) }
     ensures key_fault { IfOk result (λ kit. kit.new_key ≡ Fetched.Fault →
         Rose (W.told outside.old).fetches.faults (W.told outside.new).fetches.faults) }
@@ -108,16 +125,16 @@ fn take_kit<W: Outside>(
     let old_entry = taking_of(number, FoundKind::OldKey);
     let old_key = match fetch_if(alloc, outside, &needs.old_place, old_entry) {
         Ok(old_key) => old_key,
-        Err(stop) => return Err(stop),
+        Err(halt) => return Err(halt),
     };
     let new_entry = taking_of(number, FoundKind::NewKey);
     let new_key = match fetch_if(alloc, outside, &needs.new_place, new_entry) {
         Ok(new_key) => new_key,
-        Err(stop) => return Err(stop),
+        Err(halt) => return Err(halt),
     };
     let seed = match outside.fill(needs.seed, taking_of(number, FoundKind::Seed)) {
         Ok(seed) => seed,
-        Err(stop) => return Err(stop),
+        Err(_) => return Err(Halt::NoMemory),
     };
     Ok(LineKit {
         old_key,
@@ -132,10 +149,11 @@ fn fetch_if<W: Outside>(
     outside: &mut W,
     place: &Option<Location>,
     entry: FoundEntry,
-) -> Result<Fetched, NoMemory>
+) -> Result<Fetched, Halt>
     requires { is_fetch entry.what ≡ true }
     ensures takes { Acts entry.line (W.told outside.old) (W.told outside.new)
-        (Fetches result entry place.now (W.told outside.old).files) }
+        (Fetches result entry place.now (W.told outside.old).files (W.script outside.old) (W.script outside.new)) }
+    ensures reads { Reads (result_err result) (W.script outside.old) (W.script outside.new) (W.faults outside.old) (W.faults outside.new) }
     ensures asked { IfOk result (λ fetched. is_some place.now ≡ true → WasAsked fetched) }
     ensures fault { result ≡ Ok Fetched.Fault →
         Rose (W.told outside.old).fetches.faults (W.told outside.new).fetches.faults }

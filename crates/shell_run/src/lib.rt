@@ -9,6 +9,7 @@ mod laws;
 mod outside;
 mod reply;
 mod run;
+mod script;
 
 pub use found::{Found, FoundEntry, FoundKind};
 pub use laws::{failures_tell_what_failed, parts_stand_in_order};

@@ -1,40 +1,27 @@
 // A run: the lines of a script, one after another.
-ghost use Rattle.std.specs.Prelude.{◌≡◌, ◌≢◌, ◌≤◌, ◌⊎◌, [], ℕ, List, IfOk, IfErr, IfSome, OnOk, OnErr, Option, Some, length};
+ghost use Rattle.std.specs.Prelude.{◌≡◌, ◌≢◌, ◌≤◌, ◌⊎◌, [], IfErr, IfOk, IfSome, OnErr, OnOk, None, Some, is_some, length, true};
 ghost use Rattle.std.specs.Io.KnownBytes.{Appends};
-ghost use Rattle.std.specs.Result.{result_err};
 ghost use Rattle.edge_io.specs.Faults.{HasCause, Rose};
-ghost use Rattle.edge_io.specs.Lines.{lines};
-ghost use Rattle.edge_io.specs.Told.{unread};
 ghost use Rattle.key_machine.specs.Plain.{no_keys};
 ghost use Rattle.shell_lines.specs.Grammar.{line_of};
-ghost use Rattle.shell_run.specs.declared.found.FoundEntry.{FoundEntry};
 ghost use Rattle.shell_run.specs.Answers.{Acts, WhereTold};
-ghost use Rattle.shell_run.specs.Endings.{EndsInLine, closing_line, SourceFaults, SinkFaults, ClosesAs};
+ghost use Rattle.shell_run.specs.Endings.{closing_line, SourceFaults, SinkFaults, ClosesAs};
 ghost use Rattle.shell_run.specs.Outer.{Outer, calls_of};
-ghost use Rattle.shell_run.specs.Progress.{Ends, LineRan, Replied, RunsFrom, StaysTold, TakesLine, TakesNone, TookCut};
+ghost use Rattle.shell_run.specs.Progress.{Ends, EndsInLine, GoesPast, LineRan, Replied, RunsFrom, StartsNot, TookCut};
 ghost use Rattle.shell_run.specs.Ran.{IsAnswered, Printed, Ran, WroteLast};
+ghost use Rattle.shell_run.specs.Script.{script_of};
 ghost use Rattle.shell_run.specs.Texts.{usage_line};
-ghost use Rattle.shell_run.specs.Transcript.{World, told_transcript, told_world, run_from, transcript};
+ghost use Rattle.shell_run.specs.Transcript.{answer_if, told_transcript, told_world, run_from, transcript};
 
 use crate::answer::answer;
 use crate::ending::Ending;
 use crate::found::Found;
 use crate::outside::{Lent, Outside};
 use crate::reply::push_bad;
-use dataset_tree::NoMemory;
-use edge_io::{Entropy, Failed, KeyFiles, LineError, LineReader, MAX_LINE, Sink, Source};
+use crate::script::MAX_LINES;
+use edge_io::{Entropy, Failed, KeyFiles, LineReader, Sink, Source};
 use key_store::KeyState;
-use shell_lines::LineStop;
-use std::alloc::{AllocError, Global};
-
-/// The most lines of a script.
-pub(crate) const MAX_LINES: u32 = 1048576;
-
-/// The first line past those that a script may have isn't read.
-const TOO_MANY_LINES: Ending = Ending::BadLine {
-    number: MAX_LINES + 1,
-    at: 0,
-};
+use std::alloc::Global;
 
 const USAGE_LINE: &[u8] = b"usage: zfs_shell [--max-salt-uses N] [--generate N]\n";
 
@@ -110,174 +97,176 @@ pub fn run_alone<S: Source, O: Sink, F: KeyFiles, E: Entropy>(
     ensures none_failed { ¬ Rose (F.faults files.old) (F.faults files.new) →
         ¬ Rose (E.faults entropy.old) (E.faults entropy.new) → found.new ≡ [] }
 {
-    let mut outside = Lent {
-        files,
-        entropy,
-        found,
-    };
-    let ending = run_words(alloc, words, script, out, &mut outside);
+    let ending = run_words(alloc, words, script, out, files, entropy, found);
     close(alloc, ending, out).status()
 }
 
 /// Does what the words ask, and says how the run ends.
-fn run_words<S: Source, O: Sink, W: Outside>(
+fn run_words<S: Source, O: Sink, F: KeyFiles, E: Entropy>(
     alloc: Global,
     words: &[String],
     script: &mut S,
     out: &mut O,
-    outside: &mut W,
+    files: &mut F,
+    entropy: &mut E,
+    found: &mut Found,
 ) -> Ending
-    ensures told { RunsFrom (λ line. line ≤ MAX_LINES) (W.told outside.old) (W.told outside.new) (λ found made.
-        IfSome (S.left script.old) (λ bytes. IfSome (told_world no_keys (W.told outside.old)) (λ w.
-        Ends result (transcript words.now bytes found w) made (O.taken out.old) (O.taken out.new)))) }
+    ensures told { let before : Outer = record {
+      files = F.files files.old;
+      fetches = calls_of (F.calls files.old) (F.failing files.old) (F.faults files.old);
+      entropy = E.left entropy.old;
+      fills = calls_of (E.calls entropy.old) (E.failing entropy.old) (E.faults entropy.old);
+      found = found.old;
+    } in
+        let after : Outer = record {
+          files = F.files files.new;
+          fetches = calls_of (F.calls files.new) (F.failing files.new) (F.faults files.new);
+          entropy = E.left entropy.new;
+          fills = calls_of (E.calls entropy.new) (E.failing entropy.new) (E.faults entropy.new);
+          found = found.new;
+        } in
+        RunsFrom (λ line. line ≤ MAX_LINES) before after (λ found made.
+        IfSome (told_world no_keys before (script_of 1 (S.left script.old))) (λ w.
+        Ends result (transcript words.now found w) made (O.taken out.old) (O.taken out.new))) }
     ensures end { result ≡ Ending.Done → IfSome (S.left script.old) (λ bytes. S.left script.new ≡ Some []) }
     ensures usage { words.now ≢ [] → result ≡ Ending.Usage }
     ensures usage_only { result ≡ Ending.Usage → words.now ≢ [] }
-    ensures nothing { words.now ≢ [] → (script.new ≡ script.old) × (outside.new ≡ outside.old) × (out.new ≡ out.old) }
+    ensures nothing { words.now ≢ [] → (script.new ≡ script.old) × (files.new ≡ files.old) × (entropy.new ≡ entropy.old)
+        × (found.new ≡ found.old) × (out.new ≡ out.old) }
     ensures source { SourceFaults (Some result) (S.faults script.old) (S.faults script.new) }
     ensures sink { SinkFaults (Some result) (O.faults out.old) (O.faults out.new) }
-    ensures holds { W.holds outside.new ≡ W.holds outside.old }
 {
-    match words {
-        [] => run_script(alloc, script, out, outside),
-        [_, ..] => Ending::Usage,
+    match start(alloc, words) {
+        Ok((mut reader, mut keys)) => {
+            run_script(
+                alloc,
+                &mut reader,
+                &mut keys,
+                script,
+                out,
+                files,
+                entropy,
+                found,
+            )
+        }
+        Err(ending) => ending,
     }
 }
 
 /// Runs a script, and says how it ended.
-fn run_script<S: Source, O: Sink, W: Outside>(
+fn run_script<S: Source, O: Sink, F: KeyFiles, E: Entropy>(
     alloc: Global,
+    reader: &mut LineReader,
+    keys: &mut KeyState,
     script: &mut S,
     out: &mut O,
-    outside: &mut W,
+    files: &mut F,
+    entropy: &mut E,
+    found: &mut Found,
 ) -> Ending
-    ensures told { RunsFrom (λ line. line ≤ MAX_LINES) (W.told outside.old) (W.told outside.new) (λ found made.
-        IfSome (S.left script.old) (λ bytes. IfSome (told_world no_keys (W.told outside.old)) (λ w.
-        Ends result (run_from 1 (lines bytes) found w) made (O.taken out.old) (O.taken out.new)))) }
+    requires reader { reader.old ≡ [] }
+    requires keys { keys.old ≡ no_keys }
+    ensures told { let before : Outer = record {
+      files = F.files files.old;
+      fetches = calls_of (F.calls files.old) (F.failing files.old) (F.faults files.old);
+      entropy = E.left entropy.old;
+      fills = calls_of (E.calls entropy.old) (E.failing entropy.old) (E.faults entropy.old);
+      found = found.old;
+    } in
+        let after : Outer = record {
+          files = F.files files.new;
+          fetches = calls_of (F.calls files.new) (F.failing files.new) (F.faults files.new);
+          entropy = E.left entropy.new;
+          fills = calls_of (E.calls entropy.new) (E.failing entropy.new) (E.faults entropy.new);
+          found = found.new;
+        } in
+        RunsFrom (λ line. line ≤ MAX_LINES) before after (λ found made.
+        IfSome (told_world no_keys before (script_of 1 (S.left script.old))) (λ w.
+        Ends result (run_from found w) made (O.taken out.old) (O.taken out.new))) }
     ensures end { result ≡ Ending.Done → IfSome (S.left script.old) (λ bytes. S.left script.new ≡ Some []) }
     ensures not_usage { result ≢ Ending.Usage }
     ensures source { SourceFaults (Some result) (S.faults script.old) (S.faults script.new) }
     ensures sink { SinkFaults (Some result) (O.faults out.old) (O.faults out.new) }
-    ensures holds { W.holds outside.new ≡ W.holds outside.old }
 {
-    match start(alloc) {
-        Ok((mut reader, mut keys)) => {
-            run_lines(alloc, 1, &mut keys, &mut reader, script, out, outside)
-        }
-        Err(_) => Ending::NoMemory,
+    let mut outside = Lent {
+        next: 1,
+        reader,
+        source: script,
+        files,
+        entropy,
+        found,
+    };
+    let ending = run_lines(alloc, keys, out, &mut outside);
+    ending
+}
+
+/// A reader that has taken nothing, and a host that holds nothing, for a command line without words.
+fn start(alloc: Global, words: &[String]) -> Result<(LineReader, KeyState), Ending>
+    ensures made { IfOk result (λ made. (made.0 ≡ []) × (made.1 ≡ no_keys) × (words.now ≡ [])) }
+    ensures none { IfErr result (λ ending. StartsNot ending words.now) }
+{
+    match words {
+        [] => make(alloc),
+        [_, ..] => Err(Ending::Usage),
     }
 }
 
 /// A reader that has taken nothing, and a host that holds nothing.
-fn start(alloc: Global) -> Result<(LineReader, KeyState), NoMemory>
-    ensures { IfOk result (λ made. (made.0 ≡ []) × (made.1 ≡ no_keys)) }
+fn make(alloc: Global) -> Result<(LineReader, KeyState), Ending>
+    ensures made { IfOk result (λ made. (made.0 ≡ []) × (made.1 ≡ no_keys)) }
+    ensures none { IfErr result (λ ending. ending ≡ Ending.NoMemory) }
 {
-    let keys = KeyState::new(alloc)?;
-    match LineReader::new(alloc) {
-        Ok(reader) => Ok((reader, keys)),
-        Err(_) => Err(AllocError),
+    match (KeyState::new(alloc), LineReader::new(alloc)) {
+        (Ok(keys), Ok(reader)) => Ok((reader, keys)),
+        _ => Err(Ending::NoMemory),
     }
 }
 
-/// Runs the lines from this number on.
-pub(crate) fn run_lines<S: Source, O: Sink, W: Outside>(
+/// Runs the lines that are left of the script.
+pub(crate) fn run_lines<O: Sink, W: Outside>(
     alloc: Global,
-    first: u32,
     keys: &mut KeyState,
-    reader: &mut LineReader,
-    script: &mut S,
     out: &mut O,
     outside: &mut W,
 ) -> Ending
-    requires { first ≤ MAX_LINES }
     ensures told { RunsFrom (λ line. line ≤ MAX_LINES) (W.told outside.old) (W.told outside.new) (λ found made.
-        IfSome (unread reader.old (S.left script.old)) (λ bytes. IfSome (told_world keys.old (W.told outside.old)) (λ w.
-        Ends result (run_from first (lines bytes) found w) made (O.taken out.old) (O.taken out.new)))) }
-    ensures end { result ≡ Ending.Done → IfSome (unread reader.old (S.left script.old)) (λ bytes. unread reader.new (S.left script.new) ≡ Some []) }
+        IfSome (told_world keys.old (W.told outside.old) (W.script outside.old)) (λ w.
+        Ends result (run_from found w) made (O.taken out.old) (O.taken out.new))) }
+    ensures end { result ≡ Ending.Done → IfSome (W.script outside.old).ahead (λ ahead. (W.script outside.new).ahead ≡ Some []) }
     ensures not_usage { result ≢ Ending.Usage }
-    ensures source { SourceFaults (Some result) (S.faults script.old) (S.faults script.new) }
+    ensures source { SourceFaults (Some result) (W.faults outside.old) (W.faults outside.new) }
     ensures sink { SinkFaults (Some result) (O.faults out.old) (O.faults out.new) }
     ensures holds { W.holds outside.new ≡ W.holds outside.old }
 {
     let mut reply = Vec::new(alloc);
-    for number in first..MAX_LINES + 1 {
-        if let Some(ending) = run_line(
-            alloc, number, keys, reader, &mut reply, script, out, outside,
-        ) {
+    'lines: loop {
+        if let Some(ending) = run_line(alloc, keys, &mut reply, out, outside) {
             return ending;
         }
     }
-    end_at_limit(reader, script)
 }
 
-/// How a run ends that has answered as many lines as a script may have.
-fn end_at_limit<S: Source>(reader: &mut LineReader, script: &mut S) -> Ending
-    ensures told { IfSome (unread reader.old (S.left script.old)) (λ bytes. (found : List FoundEntry) → (w : World) → (t : Option (List ℕ)) →
-        Ends result (run_from 1048577 (lines bytes) found w) [] t t) }
-    ensures end { result ≡ Ending.Done → IfSome (unread reader.old (S.left script.old)) (λ bytes. unread reader.new (S.left script.new) ≡ Some []) }
-    ensures not_usage { (result ≢ Ending.Usage) × (result ≢ Ending.WriteFault) }
-    ensures source { SourceFaults (Some result) (S.faults script.old) (S.faults script.new) }
-{
-    match reader.next(script) {
-        Ok(None) => Ending::Done,
-        Ok(Some(_)) => TOO_MANY_LINES,
-        Err(LineError::Long) => TOO_MANY_LINES,
-        Err(LineError::Failed) => Ending::ReadFault,
-        Err(LineError::NoMemory) => Ending::NoMemory,
-    }
-}
-
-/// Takes a line, carries it out and prints its reply; else says how the run ends.
-fn run_line<S: Source, O: Sink, W: Outside>(
+/// Takes the next line, carries it out and prints its reply; else says how the run ends.
+fn run_line<O: Sink, W: Outside>(
     alloc: Global,
-    number: u32,
     keys: &mut KeyState,
-    reader: &mut LineReader,
     reply: &mut Vec<u8>,
-    script: &mut S,
     out: &mut O,
     outside: &mut W,
 ) -> Option<Ending>
-    requires { number ≤ MAX_LINES }
-    ensures told { Acts number (W.told outside.old) (W.told outside.new) (λ made. IfSome (unread reader.old (S.left script.old)) (λ bytes.
-        WhereTold (told_world keys.old (W.told outside.old)) made (λ found w.
-        LineRan result number bytes (unread reader.new (S.left script.new)) found w (told_world keys.new (W.told outside.new)) (O.taken out.old) (O.taken out.new) made))) }
-    ensures unread { StaysTold result (unread reader.old (S.left script.old)) (unread reader.new (S.left script.new)) }
-    ensures end { result ≡ Some Ending.Done → IfSome (unread reader.old (S.left script.old)) (λ bytes. unread reader.new (S.left script.new) ≡ Some []) }
+    ensures told { RunsFrom (λ line. (line ≡ (W.script outside.old).next) × (line ≤ MAX_LINES)) (W.told outside.old) (W.told outside.new) (λ found made.
+        IfSome (told_world keys.old (W.told outside.old) (W.script outside.old)) (λ w.
+        LineRan result found w (told_world keys.new (W.told outside.new) (W.script outside.new)) (O.taken out.old) (O.taken out.new) made)) }
+    ensures past { GoesPast result (W.script outside.old) (W.script outside.new) }
     ensures not_usage { result ≢ Some Ending.Usage }
-    ensures source { SourceFaults result (S.faults script.old) (S.faults script.new) }
+    ensures source { SourceFaults result (W.faults outside.old) (W.faults outside.new) }
     ensures sink { SinkFaults result (O.faults out.old) (O.faults out.new) }
     ensures holds { W.holds outside.new ≡ W.holds outside.old }
 {
-    match take_line(number, reader, script) {
+    let number = outside.next();
+    match outside.take_line() {
         Ok(line) => reply_to(alloc, number, keys, line.as_slice(), reply, out, outside),
         Err(ending) => Some(ending),
-    }
-}
-
-/// Takes the line of this number; else says how the run ends.
-fn take_line<S: Source>(
-    number: u32,
-    reader: &mut LineReader,
-    script: &mut S,
-) -> Result<Vec<u8>, Ending>
-    ensures line { IfOk result (λ line. IfSome (unread reader.old (S.left script.old)) (λ bytes.
-        TakesLine line.items bytes (unread reader.new (S.left script.new)))) }
-    ensures short { IfOk result (λ line. length line.items ≤ 65536) }
-    ensures none { IfErr result (λ ending. IfSome (unread reader.old (S.left script.old)) (λ bytes.
-        TakesNone ending number bytes (unread reader.new (S.left script.new)))) }
-    ensures not_usage { IfErr result (λ ending. (ending ≢ Ending.Usage) × (ending ≢ Ending.WriteFault)) }
-    ensures source { SourceFaults (result_err result) (S.faults script.old) (S.faults script.new) }
-{
-    match reader.next(script) {
-        Ok(Some(line)) => Ok(line),
-        Ok(None) => Err(Ending::Done),
-        Err(LineError::Long) => Err(Ending::BadLine {
-            number,
-            at: MAX_LINE as u32,
-        }),
-        Err(LineError::Failed) => Err(Ending::ReadFault),
-        Err(LineError::NoMemory) => Err(Ending::NoMemory),
     }
 }
 
@@ -293,9 +282,13 @@ fn reply_to<O: Sink, W: Outside>(
 ) -> Option<Ending>
     requires { length line.now ≤ 65536 }
     ensures told { Acts number (W.told outside.old) (W.told outside.new) (λ made.
-        WhereTold (told_world keys.old (W.told outside.old)) made (λ entries w.
-        Replied result number (line_of line.now 0) entries w (told_world keys.new (W.told outside.new)) (O.taken out.old) (O.taken out.new) made)) }
+        WhereTold (told_world keys.old (W.told outside.old) (W.script outside.old)) made (λ entries w.
+        Replied result (answer_if number entries w (line_of line.now 0)) (told_world keys.new (W.told outside.new) (W.script outside.new))
+        (O.taken out.old) (O.taken out.new) made)) }
+    ensures later { (W.script outside.old).next ≤ (W.script outside.new).next }
+    ensures stays { result ≡ None → is_some (W.script outside.old).ahead ≡ true → is_some (W.script outside.new).ahead ≡ true }
     ensures kinds { EndsInLine result }
+    ensures source { SourceFaults result (W.faults outside.old) (W.faults outside.new) }
     ensures sink { SinkFaults result (O.faults out.old) (O.faults out.new) }
     ensures holds { W.holds outside.new ≡ W.holds outside.old }
 {
@@ -305,8 +298,7 @@ fn reply_to<O: Sink, W: Outside>(
             Ok(()) => None,
             Err(_) => Some(Ending::WriteFault),
         },
-        Err(LineStop::Bad { at }) => Some(Ending::BadLine { number, at }),
-        Err(LineStop::NoMemory) => Some(Ending::NoMemory),
+        Err(halt) => Some(halt.ending()),
     }
 }
 

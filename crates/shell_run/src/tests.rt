@@ -56,10 +56,10 @@ fn entropy_of(alloc: Global, len: usize, fails: &[u32]) -> Result<MemEntropy, Fa
     Ok(MemEntropy::new(bytes, Vec::from_slice(alloc, fails)?))
 }
 
-// Runs a script without words that takes nothing.
+// Runs a script without words, over entropy for two seeds and no failing call.
 fn run_plain<S: Source, O: Sink>(alloc: Global, source: &mut S, sink: &mut O) -> Result<u8, Fail> {
     let mut files = key_files(alloc, &[])?;
-    let mut entropy = entropy_of(alloc, 0, &[])?;
+    let mut entropy = entropy_of(alloc, 64, &[])?;
     let mut found = nothing_found(alloc)?;
     Ok(run_alone(
         alloc,
@@ -72,18 +72,23 @@ fn run_plain<S: Source, O: Sink>(alloc: Global, source: &mut S, sink: &mut O) ->
     ))
 }
 
-const TREE: &[u8] =
-    b"create tank\ncreate tank/home\n# a comment\n\ncreate tank/home\ncreate lake/x\nlist";
+const PROMPTS: &[u8] = b"create -o keyformat=hex t
+<0000000000000000000000000000000000000000000000000000000000000000
+unload-key t
+load-key t
+list
+load-key t
+<0000000000000000000000000000000000000000000000000000000000000000";
 
-const TREE_REPLIES: &[u8] =
-    b"1 ok\n2 ok\n5 error 2 Exists\n6 error 4 NoParent\n7 set tank plain\n7 set tank/home plain\n7 ok\n";
+const PROMPT_REPLIES: &[u8] =
+    b"1 ok\n3 ok\n4 error 10 BadMaterial short\n5 set t aes-256-gcm root unavailable\n5 ok\n6 ok\n";
 
 #[test]
 fn a_failing_source_leaves_a_front_and_the_last_line(rt: HostRuntime) -> Result<(), Fail> {
     let alloc = rt.alloc();
-    for fails_at in 0..20u32 {
+    for fails_at in 0..45u32 {
         let mut source = Pieces {
-            left: TREE,
+            left: PROMPTS,
             calls: 0,
             fails_at,
             faults: 0,
@@ -91,11 +96,11 @@ fn a_failing_source_leaves_a_front_and_the_last_line(rt: HostRuntime) -> Result<
         let mut sink = MemSink::new(Vec::new(alloc));
         let status = run_plain(alloc, &mut source, &mut sink)?;
         if source.faults == 0 {
-            assert_eq!(rt; (status, sink.bytes()), (0, TREE_REPLIES));
+            assert_eq!(rt; (status, sink.bytes()), (0, PROMPT_REPLIES));
         } else {
             assert_eq!(rt; status, 4);
             let front = sink.bytes().strip_suffix(b"read fault\n".as_slice());
-            assert!(rt; front.is_some_and(|front| TREE_REPLIES.starts_with(front)));
+            assert!(rt; front.is_some_and(|front| PROMPT_REPLIES.starts_with(front)));
         }
     }
     Ok(())
@@ -105,12 +110,12 @@ fn a_failing_source_leaves_a_front_and_the_last_line(rt: HostRuntime) -> Result<
 fn a_failing_sink_leaves_a_front(rt: HostRuntime) -> Result<(), Fail> {
     let alloc = rt.alloc();
     for call in 0..6u32 {
-        let mut source = MemSource::new(Vec::from_slice(alloc, TREE)?, Vec::new(alloc));
+        let mut source = MemSource::new(Vec::from_slice(alloc, PROMPTS)?, Vec::new(alloc));
         let mut sink = MemSink::new(Vec::from_slice(alloc, &[call])?);
         let status = run_plain(alloc, &mut source, &mut sink)?;
-        let all = sink.bytes().len() == TREE_REPLIES.len();
+        let all = sink.bytes().len() == PROMPT_REPLIES.len();
         assert_eq!(rt; status, if all { 0 } else { 5 });
-        assert!(rt; TREE_REPLIES.starts_with(sink.bytes()));
+        assert!(rt; PROMPT_REPLIES.starts_with(sink.bytes()));
         assert_eq!(rt; all, call == 5);
     }
     Ok(())
@@ -134,27 +139,13 @@ type Row = (
     &'static [(u32, FoundKind)],
 );
 
-const ROWS: [Row; 7] = [
-    (
-        &[],
-        &[],
-        64,
-        b"1 ok\n2 ok\n3 ok\n4 ok\n5 error 2 Exists\n6 ok available\n",
-        &[],
-    ),
+const ROWS: [Row; 4] = [
     (
         &[0],
         &[],
         96,
         b"1 error 12 KeyFault\n2 ok\n3 ok\n4 ok\n5 ok\n6 ok available\n",
         &[(1, FoundKind::NewKey)],
-    ),
-    (
-        &[1],
-        &[],
-        64,
-        b"1 ok\n2 error 12 KeyFault\n3 error 1 NoSuch\n4 error 1 NoSuch\n5 error 2 Exists\n6 error 1 NoSuch\n",
-        &[(2, FoundKind::NewKey)],
     ),
     (
         &[2],
@@ -169,13 +160,6 @@ const ROWS: [Row; 7] = [
         64,
         b"1 error 13 EntropyFault\n2 ok\n3 ok\n4 ok\n5 ok\n6 ok available\n",
         &[(1, FoundKind::Seed)],
-    ),
-    (
-        &[],
-        &[1],
-        64,
-        b"1 ok\n2 error 13 EntropyFault\n3 error 1 NoSuch\n4 error 1 NoSuch\n5 error 2 Exists\n6 error 1 NoSuch\n",
-        &[(2, FoundKind::Seed)],
     ),
     (
         &[0, 1],

@@ -1,26 +1,20 @@
-use Rattle.std.proofs.Common.{◌≡◌, ◌+◌, ◌-◌, suc, ap, ◌∙◌, arith}
-use Rattle.aes_block.specs.Cipher.{add_round_key, cipher, mix_columns, shift_rows, state_after, sub_bytes}
-use Rattle.aes_block.proofs.CipherLaws.{cipher_of_schedule}
+use Rattle.std.proofs.Common.{◌≡◌, ◌%◌, ◌<◌, slice_index, take, get_or-take, length-take-le, sym, ap, ◌∙◌, arith}
+use Rattle.std.proofs.lemmas.List.{ext_get_or}
+use Rattle.aes_block.specs.Cipher.{aes}
+use Rattle.aes_block.proofs.CipherLaws.{length-aes}
 use Rattle.aes_block.proofs.Aes.encrypt_block.Goals as goal
 
-pub rounds-init : goal.rounds-init
-unfolding state_after
-rounds-init g c = c.add_round_key.ensures
-
-pub rounds-preserved : goal.rounds-preserved
-unfolding state_after
-rounds-preserved g c =
-    let next : c.rounds.round + 1 - 1 ≡ suc (c.rounds.round - 1) = omega arith in
-    let number : c.rounds.round ≡ suc (c.rounds.round - 1) = omega arith in
-    rw next (c.add_round_key-in-rounds.ensures
-    ∙ rw (c.mix_columns.ensures, c.shift_rows.ensures, c.sub_bytes.ensures, c.rounds.invariant)
-    (ap (add_round_key (mix_columns (shift_rows (sub_bytes (state_after c.self.inside.words c.args.block.now (c.rounds.round - 1))))) c.self.inside.words) number))
-
 pub returns : goal.returns
-unfolding cipher
 returns g c =
-    let last : c.rounds.round ≡ g.row.NK + 6 = omega arith in
-    c.add_round_key-2.ensures
-    ∙ rw (c.shift_rows-2.ensures, c.sub_bytes-2.ensures, c.rounds.invariant, last)
-    (cipher_of_schedule g.row.NK c.self.inside.words c.args.self.now c.args.block.now
-    c.self.invariant.0 c.self.told c.self.invariant.1 c.self.view_is)
+    let key = c.args.self.now in
+    let block = c.args.block.now in
+    let lanes = c.encrypt_pair.ensures (λ _. block) (λ _ k. c.fits-block k) c.side_by_side.ensures in
+    let both = c.encrypt_pair.result in
+    let long = lanes.long in
+    let half = length-take-le 16 both (omega arith) in
+    c.copy_from_slice.ensures.after
+    ∙ ext_get_or 0 (take 16 both) (aes key block) (half ∙ sym (length-aes key block))
+    (λ k lt.
+    let below : k < 16 = omega arith in
+    let place : k % 16 ≡ k = omega arith in
+    get_or-take 16 both k 0 below ∙ lanes.each k (omega arith) ∙ ap (slice_index (aes key block)) place)

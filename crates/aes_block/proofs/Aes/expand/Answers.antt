@@ -35,8 +35,12 @@ words-preserved g c =
     }
 
 pub invariant_of-result : goal.invariant_of-result
-invariant_of-result g c =
-    (c.requires.size, (schedule_done g.row.NK c.words.i c.args.key.now c.words.words c.requires.whole (omega arith) c.words.invariant.held).1)
+invariant_of-result g c = (
+  c.requires.size,
+  (schedule_done g.row.NK c.words.i c.args.key.now c.words.words c.requires.whole (omega arith) c.words.invariant.held).1,
+  c.tower_words.ensures.made,
+  c.tower_words.ensures.bytes,
+)
 
 pub returns : goal.returns
 returns g c =

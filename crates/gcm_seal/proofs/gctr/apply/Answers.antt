@@ -1,7 +1,7 @@
-use Rattle.std.proofs.Common.{◌≡◌, ◌-◌, ◌*◌, arith, refl, sym, ap, ◌∙◌}
+use Rattle.std.proofs.Common.{◌≡◌, ℕ, ◌+◌, ◌-◌, ◌*◌, ◌<◌, List, arith, refl, ap, ◌∙◌}
 use Rattle.aes_block.specs.Cipher.{aes}
-use Rattle.gcm_seal.specs.Gcm.{inc32, counter_block}
-use Rattle.gcm_seal.proofs.Counting.{counter_block_next, gctr_none, gctr_more, gctr_all}
+use Rattle.gcm_seal.specs.Gcm.{block_at, counter_block}
+use Rattle.gcm_seal.proofs.Counting.{counter_block-add, gctr_none, gctr_more, gctr_all}
 use Rattle.gcm_seal.proofs.gctr.apply.Goals as goal
 
 pub loop-i-init : goal.loop-i-init
@@ -13,10 +13,14 @@ loop-i-preserved g c =
     let key = c.args.cipher.now in
     let icb = c.args.initial in
     let i = c.loop-i.i in
-    let stream : c.encrypt_block.new.block ≡ aes key (counter_block icb i) = c.encrypt_block.ensures ∙ ap (aes key) c.loop-i.invariant.0 in (
-      c.inc32.ensures ∙ ap inc32 c.loop-i.invariant.0 ∙ sym (counter_block_next icb i),
-      gctr_more key icb c.args.text.now c.loop-i.text c.xor_into.new.part i (c.min-end.result - 16 * i) (omega arith)
-          c.loop-i.invariant.1 (omega arith) (rw stream at c.xor_into.ensures),
+    let next : 8 * i + 8 ≡ 8 * (i + 1) = omega arith in
+    let stream : (j : ℕ) → j < 8 → block_at c.key_stream-stream.result j ≡ aes key (counter_block icb (8 * i + j)) = λ j h.
+    c.key_stream-stream.ensures.blocks j h
+    ∙ ap (λ (b : List ℕ). aes key (counter_block b j)) c.loop-i.invariant.0 ∙ ap (aes key) (counter_block-add icb (8 * i) j) in (
+      c.key_stream-stream.ensures.counted ∙ ap (λ (b : List ℕ). counter_block b 8) c.loop-i.invariant.0
+          ∙ counter_block-add icb (8 * i) 8 ∙ ap (counter_block icb) next,
+      gctr_more key icb c.args.text.now c.loop-i.text c.xor_into.new.part c.key_stream-stream.result i (c.min-end.result - 128 * i) (omega arith)
+          c.loop-i.invariant.1 (omega arith) stream c.xor_into.ensures,
     )
 
 pub returns : goal.returns

@@ -4,5 +4,5 @@ use Rattle.gcm_seal.proofs.gctr.apply.Given as goal
 
 abbrev pub invariant-loop-i : goal.invariant-loop-i
 invariant-loop-i g l =
-    (l.counter_block ≡ counter_block l.initial.counter_block l.i)
-    × (l.text ≡ gctr_blocks l.cipher l.initial.counter_block l.initial.text l.i ++ drop (16 * l.i) l.initial.text)
+    (l.counter ≡ counter_block l.initial.counter (8 * l.i))
+    × (l.text ≡ gctr_blocks l.cipher l.initial.counter l.initial.text (8 * l.i) ++ drop (128 * l.i) l.initial.text)

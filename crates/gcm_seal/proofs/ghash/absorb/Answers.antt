@@ -5,17 +5,17 @@ use Rattle.gcm_seal.proofs.Hashing.{absorb_none, absorb_more, absorb_all}
 use Rattle.gcm_seal.proofs.ghash.absorb.Goals as goal
 
 pub loop-i-init : goal.loop-i-init
-loop-i-init c = λ x whole e. absorb_none c.args.h c.args.state x _ whole e
+loop-i-init c = λ h x has whole e. absorb_none h c.args.state x _ whole e
 
 pub loop-i-preserved : goal.loop-i-preserved
 loop-i-preserved c =
     let bytes = c.args.bytes.now in
     let i = c.loop-i.i in
     let part : take (c.min-end.result - 16 * i) (drop (16 * i) bytes) ≡ block_at bytes i = rw c.min-end.ensures (block_from_part bytes i) in
-    λ x whole e.
-    c.multiply-y.ensures
-    ∙ absorb_more c.args.h c.loop-i.y c.padded_number.result x bytes i whole (omega arith) (c.loop-i.invariant x whole e)
+    λ h x has whole e.
+    c.multiply-y.ensures h has
+    ∙ absorb_more h c.loop-i.y c.padded_number.result x bytes i whole (omega arith) (c.loop-i.invariant h x has whole e)
     (rw part at c.padded_number.ensures)
 
 pub returns : goal.returns
-returns c = λ x whole e. absorb_all c.args.h c.loop-i.y x c.args.bytes.now c.loop-i.i whole (omega arith) (c.loop-i.invariant x whole e)
+returns c = λ h x has whole e. absorb_all h c.loop-i.y x c.args.bytes.now c.loop-i.i whole (omega arith) (c.loop-i.invariant h x has whole e)

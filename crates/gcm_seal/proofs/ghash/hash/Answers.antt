@@ -9,10 +9,11 @@ returns c =
     let a = padded c.args.aad.now in
     let s = padded c.args.sealed.now in
     let n = c.lengths.result in
-    let aad_done = c.absorb-after_aad.ensures [] refl (ghash_value-empty c.from_be_bytes-h.result) in
-    let sealed_done = c.absorb-after_sealed.ensures a (omega (arith, length-padded c.args.aad.now)) aad_done in
-    let lengths_done = c.absorb.ensures (a ++ s)
+    let h = c.from_be_bytes.result in
+    let aad_done = c.absorb-after_aad.ensures h [] c.multiples-multiples.ensures refl (ghash_value-empty c.from_be_bytes.result) in
+    let sealed_done = c.absorb-after_sealed.ensures h a c.multiples-multiples.ensures (omega (arith, length-padded c.args.aad.now)) aad_done in
+    let lengths_done = c.absorb.ensures h (a ++ s) c.multiples-multiples.ensures
     (omega (arith, length-append a s, length-padded c.args.aad.now, length-padded c.args.sealed.now)) sealed_done in
     let whole : padded n ≡ lengths_block (length c.args.aad.now) (length c.args.sealed.now) = padded_whole n (search rules) ∙ c.lengths.ensures in
-    ghash_of c.args.hash_subkey _ c.from_be_bytes-h.result c.absorb.result c.to_be_bytes.result c.from_be_bytes-h.ensures
+    ghash_of c.args.hash_subkey _ c.from_be_bytes.result c.absorb.result c.to_be_bytes.result c.from_be_bytes.ensures
     (rw whole at lengths_done) c.to_be_bytes.ensures

@@ -1,5 +1,5 @@
-use Rattle.std.proofs.Common.{ℕ, ◌∙◌}
-use Rattle.shell_run.proofs.CommandLemmas.{replies_made, replies_done, same_state}
+use Rattle.std.proofs.Common.{ℕ, ◌∙◌, Ok, Err}
+use Rattle.shell_run.proofs.CommandLemmas.{loaded_replies, loaded_state, replies_made, replies_done, same_state, unloaded_replies}
 use Rattle.shell_run.proofs.command.carry.Goals as goal
 
 pub returns-in-Err-clause-reply : goal.returns-in-Err-clause-reply
@@ -8,8 +8,15 @@ returns-in-Err-clause-reply c = rw c.in-Create.is (replies_made c.in-Err.stop _ 
 pub returns-in-Err-clause-state : goal.returns-in-Err-clause-state
 returns-in-Err-clause-state c = rw c.in-Create.is (c.in-Err.ensures.state ∙ same_state ℕ c.in-Err.stop _ _)
 
+pub returns-in-Ok-load-clause-reply : goal.returns-in-Ok-load-clause-reply
+returns-in-Ok-load-clause-reply c = loaded_replies c.args.keys.now c.args.command.now _ _ _ c.args.kit.now c.in-Load.is c.in-Ok-load.ensures.reply
+
+pub returns-in-Ok-load-clause-state : goal.returns-in-Ok-load-clause-state
+returns-in-Ok-load-clause-state c = loaded_state (Unit {0}) c.args.keys.now c.load.new.self c.args.command.now _ _ _ c.args.kit.now (Ok tt) c.in-Load.is c.in-Ok-load.ensures.state
+
 pub returns-in-Err-load-clause-reply : goal.returns-in-Err-load-clause-reply
-returns-in-Err-load-clause-reply c = rw c.in-Load.is (replies_done c.in-Err-load.stop _ c.in-Err-load.ensures.reply)
+returns-in-Err-load-clause-reply c = unloaded_replies c.args.keys.now c.args.command.now _ _ _ c.args.kit.now c.in-Err-load.stop c.in-Load.is c.in-Err-load.ensures.reply
 
 pub returns-in-Err-load-clause-state : goal.returns-in-Err-load-clause-state
-returns-in-Err-load-clause-state c = rw c.in-Load.is (c.in-Err-load.ensures.state ∙ same_state (Unit {0}) c.in-Err-load.stop _ _)
+returns-in-Err-load-clause-state c =
+    loaded_state (Unit {0}) c.args.keys.now c.load.new.self c.args.command.now _ _ _ c.args.kit.now (Err c.in-Err-load.stop) c.in-Load.is c.in-Err-load.ensures.state ∙ same_state (Unit {0}) c.in-Err-load.stop _ _

@@ -1,21 +1,18 @@
 use Rattle.std.proofs.Common.{◌≤◌, ◌∙◌, sym}
-use Rattle.shell_run.proofs.EndingLemmas.{completes, done_is, ran, none_listed, same_names, sink_untouched, source_unread}
+use Rattle.shell_run.proofs.EndingLemmas.{completes, done_is, ran, none_listed, sink_untouched, source_unread, statuses}
 use Rattle.shell_run.proofs.run.run_alone.Goals as goal
 
 pub returns-clause-ran : goal.returns-clause-ran
 returns-clause-ran g c =
     let run = c.run_words-ending in
-    let names = same_names _ _ _ _ _ _ run.ensures.holds in
-    rw (c.status.ensures, c.files-1.given.1 (sym names.0), c.entropy-1.given.1 (sym names.1), c.found-1.given.1 (sym names.2))
+    rw c.status.ensures
     (ran c.args.words.now (g.S.Source.left c.args.script.now) run.result c.close.result (g.O.Sink.taken c.args.out.now) (g.O.Sink.taken run.new.out) (g.O.Sink.taken c.close.new.out)
     (g.O.Sink.faults c.args.out.now) (g.O.Sink.faults run.new.out) (g.O.Sink.faults c.close.new.out) _ _ c.requires run.ensures.told c.close.ensures.ending run.ensures.sink c.close.ensures.told c.close.ensures.silent)
 
 pub returns-clause-none_failed : goal.returns-clause-none_failed
 returns-clause-none_failed g c =
     let run = c.run_words-ending in
-    let names = same_names _ _ _ _ _ _ run.ensures.holds in
-    rw (c.files-1.given.1 (sym names.0), c.entropy-1.given.1 (sym names.1), c.found-1.given.1 (sym names.2))
-    (none_listed (λ line. line ≤ 1048576) run.ensures.told.made _ _ run.ensures.told.takes c.requires)
+    none_listed (λ line. line ≤ 1048576) run.ensures.told.made _ _ run.ensures.told.takes c.requires
 
 pub returns-clause-read_to_its_end : goal.returns-clause-read_to_its_end
 returns-clause-read_to_its_end g c = λ none_bad. c.run_words-ending.ensures.end (done_is c.run_words-ending.result c.close.result c.close.ensures.ending (sym c.status.ensures ∙ none_bad))
@@ -31,3 +28,6 @@ pub returns-clause-complete : goal.returns-clause-complete
 returns-clause-complete g c = λ read written.
     rw c.status.ensures
     (completes c.run_words-ending.result c.close.result _ _ _ (g.O.Sink.faults c.run_words-ending.new.out) _ c.close.ensures.ending c.run_words-ending.ensures.source c.run_words-ending.ensures.sink c.close.ensures.later read written)
+
+pub returns-clause-statuses : goal.returns-clause-statuses
+returns-clause-statuses g c = rw c.status.ensures (statuses c.close.result)

@@ -1,17 +1,25 @@
-use Rattle.shell_run.specs.Transcript.{told_world}
-use Rattle.key_machine.specs.Plain.{no_keys}
-use Rattle.shell_run.proofs.EndingLemmas.{all_read_where_told}
-use Rattle.shell_run.proofs.RunLemmas.{no_memory_runs, script_runs}
+use Rattle.std.proofs.Common.{sym}
+use Rattle.shell_run.proofs.EndingLemmas.{same_names}
+use Rattle.shell_run.proofs.RunLemmas.{script_runs}
+use Rattle.shell_run.proofs.ScriptLemmas.{all_read}
 use Rattle.shell_run.proofs.run.run_script.Goals as goal
 
-pub returns-in-Ok-clause-end : goal.returns-in-Ok-clause-end
-returns-in-Ok-clause-end g c =
-    all_read_where_told c.run_lines.result (g.S.Source.left c.args.script.now) (g.S.Source.left c.run_lines.new.script) c.in-Ok.reader c.run_lines.new.reader c.in-Ok.ensures.0 c.run_lines.ensures.end
+pub returns-clause-told : goal.returns-clause-told
+returns-clause-told g c =
+    let run = c.run_lines-ending in
+    let names = same_names _ _ _ _ _ _ _ _ run.ensures.holds in
+    rw (c.files-1.given.1 (sym names.1), c.entropy-1.given.1 (sym names.2), c.found-1.given.1 (sym names.3))
+    (script_runs run.result c.args.keys.now c.args.reader.now (g.S.Source.left c.args.script.now) (g.O.Sink.taken c.args.out.now) (g.O.Sink.taken run.new.out) _ _ c.requires.reader c.requires.keys run.ensures.told)
 
-pub returns-in-Err-clause-told : goal.returns-in-Err-clause-told
-returns-in-Err-clause-told g c = no_memory_runs (g.W.Outside.told c.args.outside.now) (g.S.Source.left c.args.script.now) (told_world no_keys (g.W.Outside.told c.args.outside.now)) (g.O.Sink.taken c.args.out.now)
+pub returns-clause-end : goal.returns-clause-end
+returns-clause-end g c = λ done.
+    let run = c.run_lines-ending in
+    let names = same_names _ _ _ _ _ _ _ _ run.ensures.holds in
+    rw (c.script-1.given.1 (sym names.0))
+    (all_read c.args.reader.now run.new.outside.reader.now (g.S.Source.left c.args.script.now) (g.S.Source.left run.new.outside.source.now) c.requires.reader (run.ensures.end done))
 
-pub returns-in-Ok-clause-told : goal.returns-in-Ok-clause-told
-returns-in-Ok-clause-told g c =
-    script_runs c.run_lines.result c.in-Ok.keys c.in-Ok.reader (g.S.Source.left c.args.script.now) (g.O.Sink.taken c.args.out.now) (g.O.Sink.taken c.run_lines.new.out) (g.W.Outside.told c.args.outside.now) (g.W.Outside.told c.run_lines.new.outside)
-    c.in-Ok.ensures.0 c.in-Ok.ensures.1 c.run_lines.ensures.told
+pub returns-clause-source : goal.returns-clause-source
+returns-clause-source g c =
+    let run = c.run_lines-ending in
+    let names = same_names _ _ _ _ _ _ _ _ run.ensures.holds in
+    rw (c.script-1.given.1 (sym names.0)) run.ensures.source

@@ -1,0 +1,18 @@
+// The standard's example vectors, computed from the definitions.
+
+ghost use Rattle.std.specs.Prelude.{◌≡◌, [], ◌∷◌};
+ghost use Rattle.std.specs.List.{range_with_len};
+ghost use Rattle.aes_block.specs.Cipher.{aes, example_block};
+
+/// AES gives the standard's example vectors (FIPS 197, C.1 to C.3): the key's bytes rise from 0.
+pub fn aes_gives_the_examples()
+    ensures aes_128 { aes (range_with_len 0 16) example_block ≡
+        0x69 ∷ 0xc4 ∷ 0xe0 ∷ 0xd8 ∷ 0x6a ∷ 0x7b ∷ 0x04 ∷ 0x30
+        ∷ 0xd8 ∷ 0xcd ∷ 0xb7 ∷ 0x80 ∷ 0x70 ∷ 0xb4 ∷ 0xc5 ∷ 0x5a ∷ [] }
+    ensures aes_192 { aes (range_with_len 0 24) example_block ≡
+        0xdd ∷ 0xa9 ∷ 0x7c ∷ 0xa4 ∷ 0x86 ∷ 0x4c ∷ 0xdf ∷ 0xe0
+        ∷ 0x6e ∷ 0xaf ∷ 0x70 ∷ 0xa0 ∷ 0xec ∷ 0x0d ∷ 0x71 ∷ 0x91 ∷ [] }
+    ensures aes_256 { aes (range_with_len 0 32) example_block ≡
+        0x8e ∷ 0xa2 ∷ 0xb7 ∷ 0xca ∷ 0x51 ∷ 0x67 ∷ 0x45 ∷ 0xbf
+        ∷ 0xea ∷ 0xfc ∷ 0x49 ∷ 0x90 ∷ 0x4b ∷ 0x49 ∷ 0x60 ∷ 0x89 ∷ [] }
+{}
