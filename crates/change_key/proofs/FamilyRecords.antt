@@ -1,7 +1,6 @@
 -- The records of families that a dataset owns: they open under the present key, and are written anew by the families' ids.
 use Rattle.std.proofs.Common.{◌≡◌, ℕ, ◌<◌, ◌≤◌, Bool, true, false, cond, List, [], ◌∷◌, map, get_or, Option, Some, None, IfSome, is_some, refl, ap, sym, ◌∙◌, subst, arith, ⊎_elim}
-use Rattle.std.proofs.lemmas.Bool.{cases_Bool}
-use Rattle.std.proofs.lemmas.Bool.Decides.{nat_tests}
+use Rattle.std.proofs.lemmas.Bool.{eqb-true}
 use Rattle.std.proofs.lemmas.List.Elements.{All-nil, All-cons, All-head, All-tail}
 use Rattle.std.specs.List.{All, AllPairs, filter}
 use Rattle.dataset_tree.specs.declared.tree.Row.{Row}
@@ -27,11 +26,7 @@ use Rattle.change_key.proofs.RecordLemmas.{AllFound, opened_at, anew_is}
 -- the owner that a test names
 pub owner_named : (id : ℕ) (found : Option ℕ) → is_same id found ≡ true → found ≡ Some id
 owner_named id None h = absurd (cc)
-owner_named id (Some other) h = by other (other_is id other h) where
-  other_is : (id other : ℕ) → is_same id (Some other) ≡ true → other ≡ id
-  other_is id other h = grind (arith, nat_tests)
-  by : (other : ℕ) → other ≡ id → Some other ≡ Some id
-  by other same = ap (λ (m : ℕ). Some m) same
+owner_named id (Some other) h = ap (λ (m : ℕ). Some m) (eqb-true other id h)
 
 ids_have : {X : Type 0} (P : ℕ → Type 0) (entries : List (ℕ × X)) → All (λ (entry : ℕ × X). P entry.0) entries → All P (map (λ (entry : ℕ × X). entry.0) entries)
 ids_have {X} P [] all = All-nil P

@@ -1,5 +1,5 @@
 -- The present key, and what a fault of a key or of the seed refuses.
-use Rattle.std.proofs.Common.{◌≡◌, ◌≢◌, ⊎_elim, ℕ, zero, suc, ◌+◌, Bool, true, false, not, cond, ◌&&◌, ◌==◌, List, [], ◌∷◌, map, Option, Some, None, Result, Ok, Err, IfSome, is_some, refl, ap, sym, ◌∙◌, subst, arith}
+use Rattle.std.proofs.Common.{◌≡◌, ◌≢◌, ⊎_elim, ℕ, zero, suc, ◌+◌, Bool, true, false, not, cond, ◌&&◌, ◌==◌, List, [], ◌∷◌, length, map, Option, Some, None, Result, Ok, Err, IfSome, is_some, refl, ap, sym, ◌∙◌, subst, arith}
 use Rattle.std.proofs.lemmas.Bool.{cases_Bool}
 use Rattle.std.proofs.lemmas.List.Elements.{All-filter}
 use Rattle.std.specs.Prelude.{unwrap_or, if◌then◌else◌}
@@ -34,21 +34,25 @@ use Rattle.change_key.proofs.RecordLemmas.{AllFound, first_wrong_by_ids}
 
 -- ---- an owner is a root
 
-owner_is_root : (rows : List Row) (roots : List (ℕ × Props)) (root steps id : ℕ) → owner_within steps rows roots id ≡ Some root → is_some (at_id root roots) ≡ true
-owner_is_root rows roots root zero id own = absurd (cc)
-owner_is_root rows roots root (suc steps) id own = by_row (row_of id rows) own where
-  by_root : (b : Bool) (next : ℕ) → is_some (at_id id roots) ≡ b → cond b (Some id) (owner_within steps rows roots next) ≡ Some root → is_some (at_id root roots) ≡ true
+module _ (roots : List (ℕ × Props)) (root id : ℕ) (further : ℕ → Option ℕ) (lower : (next : ℕ) → further next ≡ Some root → is_some (at_id root roots) ≡ true) where
+  by_root : (b : Bool) (next : ℕ) → is_some (at_id id roots) ≡ b → cond b (Some id) (further next) ≡ Some root → is_some (at_id root roots) ≡ true
   by_root true next is found = let same : id ≡ root = cc in ap (λ (m : ℕ). is_some (at_id m roots)) (sym same) ∙ is
-  by_root false next is found = owner_is_root rows roots root steps next found
-  by_kind : (kind : Kind) (next : ℕ) → owner_by_kind kind (if is_some (at_id id roots) then Some id else owner_within steps rows roots next) ≡ Some root → is_some (at_id root roots) ≡ true
+  by_root false next is found = lower next found
+
+  by_kind : (kind : Kind) (next : ℕ) → owner_by_kind kind (cond (is_some (at_id id roots)) (Some id) (further next)) ≡ Some root → is_some (at_id root roots) ≡ true
   by_kind PlainKind next found = absurd (cc)
   by_kind Crypt next found = by_root (is_some (at_id id roots)) next refl found
-  by_row : (found : Option Row) → owner_from roots id found (λ next. owner_within steps rows roots next) ≡ Some root → is_some (at_id root roots) ≡ true
+
+  by_row : (found : Option Row) → owner_from roots id found further ≡ Some root → is_some (at_id root roots) ≡ true
   by_row None own = absurd (cc)
   by_row (Some row) own = by_kind row.kind (next_to_owner row) own
 
+owner_is_root : (rows : List Row) (roots : List (ℕ × Props)) (root steps id : ℕ) → owner_within steps rows roots id ≡ Some root → is_some (at_id root roots) ≡ true
+owner_is_root rows roots root zero id own = absurd (cc)
+owner_is_root rows roots root (suc steps) id own = by_row roots root id (λ next. owner_within steps rows roots next) (λ next found. owner_is_root rows roots root steps next found) (row_of id rows) own
+
 pub root_of_owner : (rows : List Row) (roots : List (ℕ × Props)) (root id : ℕ) → owner rows roots id ≡ Some root → is_some (at_id root roots) ≡ true
-root_of_owner rows roots root id own = owner_is_root rows roots root _ id own
+root_of_owner rows roots root id own = owner_is_root rows roots root (length rows) id own
 
 -- ---- a fetched key, where it opens what the root owns
 

@@ -13,9 +13,10 @@ use Rattle.key_machine.specs.Plain.{Plain, Stored, is_same}
 use Rattle.key_machine.specs.Plan.{set_id, planned}
 use Rattle.key_machine.specs.Refusals.{first_refusal}
 use Rattle.key_machine.specs.Rekey.{with_record}
-use Rattle.key_machine.specs.Reply.{Stepped, Reply, Refused, refused}
+use Rattle.key_machine.specs.Reply.{Reply, Refused}
 use Rattle.key_machine.proofs.KeyLists.{at_id-dropped}
 use Rattle.key_machine.proofs.RekeyRecords.{there_alike}
+use Rattle.change_key.specs.declared.new_key.NewKey.{NewKey}
 use Rattle.change_key.specs.Keys.{unless_wrong, unless_told_wrong, StopsAt}
 use Rattle.change_key.specs.Plans.{AnswersPlan}
 
@@ -48,16 +49,17 @@ no_record owns records stored same at other =
 
 -- ---- answers
 
-pub answers_refused : {T : Type 0} (why : Refusal) (step : Stepped) (p : Plain) → step ≡ refused p why → AnswersPlan {T} (Err (stops.Refused why)) step.reply
-answers_refused {T} why step p is = ap (λ (s : Stepped). s.reply) is
+pub answers_gives : (stop : Stop) (outcome : Result (List ℕ) Refusal) (reply : Reply) → Gives {T = List ℕ} (Err stop) outcome → ((why : Refusal) → outcome ≡ Err why → reply ≡ Refused why) → AnswersPlan {T = ChangePlan} (Err stop) reply
+answers_gives (stops.Refused why) outcome reply gives each = each why gives
+answers_gives stops.NoMemory outcome reply gives each = tt
 
-pub answers_gives : {T U : Type 0} (stop : Stop) (outcome : Result U Refusal) (reply : Reply) → Gives {T} (Err stop) outcome → ((why : Refusal) → outcome ≡ Err why → reply ≡ Refused why) → AnswersPlan {T} (Err stop) reply
-answers_gives {T} (stops.Refused why) outcome reply gives each = each why gives
-answers_gives {T} stops.NoMemory outcome reply gives each = tt
+pub answers_fault : (stop : Stop) (fault : Option Refusal) (reply : Reply) → StopsAt {T = ChangePlan} (Err stop) fault → ((why : Refusal) → fault ≡ Some why → reply ≡ Refused why) → AnswersPlan {T = ChangePlan} (Err stop) reply
+answers_fault (stops.Refused why) fault reply stopped each = each why stopped
+answers_fault stops.NoMemory fault reply stopped each = tt
 
-pub answers_fault : {T : Type 0} (stop : Stop) (fault : Option Refusal) (reply : Reply) → StopsAt {T} (Err stop) fault → ((why : Refusal) → fault ≡ Some why → reply ≡ Refused why) → AnswersPlan {T} (Err stop) reply
-answers_fault {T} (stops.Refused why) fault reply stopped each = each why stopped
-answers_fault {T} stops.NoMemory fault reply stopped each = tt
+pub stops_alike : (stop : Stop) (fault : Option Refusal) → StopsAt {T = NewKey} (Err stop) fault → StopsAt {T = ChangePlan} (Err stop) fault
+stops_alike (stops.Refused why) fault stopped = stopped
+stops_alike stops.NoMemory fault stopped = tt
 
 -- ---- the first refusal
 

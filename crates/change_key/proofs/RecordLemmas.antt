@@ -1,7 +1,9 @@
 -- The records that are written, by the families' ids and by their stored records.
 use Rattle.std.proofs.Common.{◌≡◌, ◌≢◌, ⊎_elim, ℕ, zero, suc, ◌+◌, ◌<◌, ◌≤◌, Bool, true, false, not, cond, ◌==◌, List, [], ◌∷◌, ◌++◌, length, take, map, get_or, Option, Some, None, IfSome, is_some, refl, ap, sym, ◌∙◌, subst, arith}
 use Rattle.std.proofs.lemmas.Bool.{cases_Bool}
+use Rattle.std.proofs.lemmas.List.{take_more, length-take-le}
 use Rattle.std.proofs.lemmas.List.Elements.{All-nil, All-cons, All-head, All-tail, All-filter}
+use Rattle.std.specs.Prelude.{unwrap_or}
 use Rattle.std.specs.List.{All, AllPairs, filter, find}
 use Rattle.std.specs.Option.{option_and_then, option_map}
 use Rattle.encryption_roots.specs.ById.{at_id}
@@ -39,8 +41,15 @@ pub numbered-append : {X : Type 0} (make : ℕ → ℕ → X) (number : ℕ) (id
 numbered-append make number [] id = let none : number + 0 ≡ number = omega arith in rw none refl
 numbered-append make number (first ∷ ids) id =
     let rest = numbered-append make (number + 1) ids id in
-    let next : number + 1 + length ids ≡ number + (1 + length ids) = omega arith in
+    let next : number + 1 + length ids ≡ number + length (first ∷ ids) = omega arith in
     ap (λ tail. make number first ∷ tail) (rest ∙ ap (λ n. numbered make (number + 1) ids ++ make n id ∷ []) next)
+
+-- one more, at a loop's step
+pub numbered_more : {X : Type 0} (make : ℕ → ℕ → X) (ids : List ℕ) (i d : ℕ) → i < length ids → numbered make 0 (take (i + 1) ids) ≡ numbered make 0 (take i ids) ++ make i (get_or ids i d) ∷ []
+numbered_more make ids i d within =
+    let long : length (take i ids) ≡ i = length-take-le i ids (omega (arith, within)) in
+    let count : 0 + length (take i ids) ≡ i = omega (arith, long) in
+    ap (numbered make 0) (take_more ids i d within) ∙ numbered-append make 0 (take i ids) (get_or ids i d) ∙ ap (λ n. numbered make 0 (take i ids) ++ make n (get_or ids i d) ∷ []) count
 
 -- each family's record is that of its stored one
 pub anew_is : (c : Ciphers) (p : Plain) (seed old new : List ℕ) (number : ℕ) (entries : List (ℕ × Stored)) → AllFound p entries → All (λ entry. is_some (c.opens entry.1.wrapped old) ≡ true) entries
@@ -87,11 +96,12 @@ pub set_by_ids : (owner : ℕ → Option ℕ) (root : ℕ) (records : List (ℕ 
 set_by_ids owner root records [] none = refl
 set_by_ids owner root records (entry ∷ stored) none =
     let rest = set_by_ids owner root records stored none in
-    ⊎_elim
-    (λ (mine : is_same root (owner entry.0) ≡ true). rw mine (ap (λ tail. (entry.0, with_record records entry) ∷ tail) rest))
-    (λ (other : is_same root (owner entry.0) ≡ false).
-    let same : with_record records entry ≡ entry.1 = rw (none entry.0 other) refl in
-    rw other (ap (λ (s : Stored). (entry.0, s) ∷ map (λ e. (e.0, with_record records e)) stored) same ∙ ap (λ tail. (entry.0, entry.1) ∷ tail) rest)) (cases_Bool (is_same root (owner entry.0)))
+    ap (λ (s : Stored). (entry.0, s) ∷ map (λ (e : ℕ × Stored). (e.0, with_record records e)) stored) (by (is_same root (owner entry.0)) refl)
+    ∙ ap (λ (tail : List (ℕ × Stored)). (entry.0, cond (is_same root (owner entry.0)) (with_record records entry) entry.1) ∷ tail) rest
+  where
+    by : (b : Bool) → is_same root (owner entry.0) ≡ b → with_record records entry ≡ cond b (with_record records entry) entry.1
+    by true is = refl
+    by false is = ap (λ (o : Option (List ℕ)). let kept : Stored = record entry.1 { wrapped = unwrap_or o entry.1.wrapped } in kept) (none entry.0 is)
 
 -- ---- rising ids
 
