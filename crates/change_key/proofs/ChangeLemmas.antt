@@ -1,21 +1,23 @@
 -- The plan of a change is its step, and what refuses it refuses the step.
-use Rattle.std.proofs.Common.{◌≡◌, ℕ, Bool, true, false, not, ◌&&◌, List, [], ◌∷◌, map, Option, Some, None, Result, Ok, Err, IfSome, is_some, option_map, refl, ap, sym, ◌∙◌, subst}
+use Rattle.std.proofs.Common.{◌≡◌, ℕ, Bool, true, false, not, ◌&&◌, List, [], ◌∷◌, map, Option, Some, None, Result, Ok, Err, IfOk, IfSome, is_some, option_map, refl, ap, sym, ◌∙◌, subst}
 use Rattle.std.specs.List.{All}
 use Rattle.dataset_tree.specs.declared.refusal.Refusal.{Refusal}
 use Rattle.dataset_tree.specs.declared.refusal.Refusal.TheVariants.{WrongKey}
+use Rattle.dataset_tree.specs.declared.refusal.Stop.{Stop}
 use Rattle.encryption_roots.specs.declared.command.KeyCmd.{KeyCmd}
 use Rattle.encryption_roots.specs.declared.command.KeyCmd.TheVariants as commands
 use Rattle.encryption_roots.specs.declared.kit.LineKit.{LineKit}
 use Rattle.encryption_roots.specs.declared.props.Options.{Options}
 use Rattle.encryption_roots.specs.declared.props.Props.{Props}
 use Rattle.encryption_roots.specs.ById.{at_id, with_id}
+use Rattle.encryption_roots.specs.Owned.{owned_families}
 use Rattle.encryption_roots.specs.Owners.{family}
 use Rattle.key_machine.specs.declared.view.ChangePlan.{ChangePlan}
 use Rattle.key_machine.specs.Change.{change_cases, change_material, changed_props, changed_salt, with_own_root, told_changed, told_change, change_families, changed, change_done}
 use Rattle.key_machine.specs.Create.{are_bad_iterations}
 use Rattle.key_machine.specs.Fair.{AreSound, IsGenuine, IsFair, AllOpen, families_written}
 use Rattle.key_machine.specs.Plain.{Plain, Stored, Ciphers, owner_of, is_same, owned, mkey}
-use Rattle.key_machine.specs.Plan.{planned}
+use Rattle.key_machine.specs.Plan.{planned, IsPlanned}
 use Rattle.key_machine.specs.Refusals.{first_refusal}
 use Rattle.key_machine.specs.Rekey.{old_key, old_wrong, rewrapped, told_anew, with_records}
 use Rattle.key_machine.specs.Reply.{Stepped, Done, refused}
@@ -30,12 +32,13 @@ use Rattle.key_machine.proofs.RekeyLaws.{change_step, change_keeps_masters}
 use Rattle.key_machine.proofs.RekeyOwners.{owner_alike, with_props_alike}
 use Rattle.key_machine.proofs.RekeyRecords.{rewrapped_ids}
 use Rattle.key_machine.proofs.SoundLemmas.{refused_step, refused_by_material}
-use Rattle.change_key.specs.Keys.{unless_told_wrong, present_key, new_key_of, first_fault}
-use Rattle.change_key.specs.Plans.{stepped, IsPlanOf, KeepsMasters, IsToldChange, OpensPresent}
-use Rattle.change_key.specs.Records.{opened_in}
-use Rattle.change_key.proofs.FamilyRecords.{entries_found, entries_open, owned_once_root}
+use Rattle.change_key.specs.Keys.{unless_told_wrong, present_key, new_key_of, first_fault, IsNewKey, StopsAt}
+use Rattle.change_key.specs.declared.new_key.NewKey.{NewKey}
+use Rattle.change_key.specs.Plans.{stepped, AnswersPlan, IsPlanOf, KeepsMasters, IsToldChange, OpensPresent}
+use Rattle.change_key.specs.Records.{opened_in, anew, numbered}
+use Rattle.change_key.proofs.FamilyRecords.{entries_found, entries_open, owned_once_root, owned_alike, written_are}
 use Rattle.change_key.proofs.KeyLemmas.{present_key_is}
-use Rattle.change_key.proofs.PlanLemmas.{plan_state, planned_is, no_record, wrong_first, key_had}
+use Rattle.change_key.proofs.PlanLemmas.{plan_state, planned_is, no_record, wrong_first, key_had, answers_fault}
 use Rattle.change_key.proofs.RecordLemmas.{same_masters, set_by_ids}
 
 some_root : (found : Option ℕ) → is_some found ≡ true → (root : ℕ) × (found ≡ Some root)
@@ -188,4 +191,41 @@ module _ (c : Ciphers) (are : AreSound c) (p : Plain) (s : Sound c p) (name : Li
         masters = masters;
         kept = λ dataset has.
             ap (λ (q : Plain). mkey c q (family p.tree.rows dataset)) plan_is ∙ change_keeps_masters c p name opts load_first facts dataset s (told_fair c p change kit are s) accepted has;
+      }
+
+    -- the answers of the call
+    pub answers : (result : Result ChangePlan Stop) → IfOk result (IsToldChange c p id opts kit old) → StopsAt result (first_fault new_of (seed_of kit.seed)) → AnswersPlan result (stepped c p change kit).reply
+    answers (Ok plan) of_kit stops = done plan of_kit
+    answers (Err stop) of_kit stops =
+        answers_fault stop (first_fault new_of (seed_of kit.seed)) (stepped c p change kit).reply stops (λ why failed. ap (λ (st : Stepped). st.reply) (new_stops why failed))
+
+    pub plans : (result : Result ChangePlan Stop) → IfOk result (IsToldChange c p id opts kit old) → IfOk result (λ plan. IsPlanOf c p change kit (old_key c p plan.root load_first kit.old_key) plan.key plan)
+    plans (Ok plan) of_kit = is_plan plan of_kit
+    plans (Err stop) of_kit = tt
+
+    pub planned_of : (result : Result ChangePlan Stop) → IfOk result (IsToldChange c p id opts kit old) → IfOk result (IsPlanned c p)
+    planned_of (Ok plan) of_kit = record { command = change; kit = kit; rekeying = tt; accepted = accepted plan of_kit; state = sym (plan_is plan of_kit) }
+    planned_of (Err stop) of_kit = tt
+
+-- ---- the plan that the call makes
+
+module _ (c : Ciphers) (p : Plain) (s : Sound c p) (id : ℕ) (opts : Options) (kit : LineKit) (old : List ℕ) (opens : OpensPresent c p id old) where
+  pub told_plan : (own : Option Props) → own ≡ at_id id p.roots → (new : NewKey) → IsNewKey c own opts kit new → (families : List ℕ) → families ≡ owned_families p.tree.rows (with_id id new.props p.roots) id
+      → (words : List ℕ) → words ≡ new.seed → (plan : ChangePlan) → plan.root ≡ id → plan.props ≡ Some new.props → plan.key ≡ Some new.key
+      → plan.wrapped.items ≡ numbered (anew c p words old new.key) 0 families → IsToldChange c p id opts kit old plan
+  told_plan own own_is new is_new families are_families words words_are plan root props key records =
+      let is : IsNewKey c (at_id id p.roots) opts kit new = subst (λ (o : Option Props). IsNewKey c o opts kit new) own_is is_new in
+      record {
+        seed = new.seed;
+        key = new.key;
+        had_seed = is.seed;
+        had_key = is.key;
+        root = root;
+        props = props ∙ ap (λ (n : Props). Some n) is.props
+        ∙ ap (λ (k : Result (List ℕ) Refusal). Some (changed_props (at_id id p.roots) opts (changed_salt c (at_id id p.roots) opts k))) is.seed;
+        loaded = key;
+        records = records
+        ∙ ap (λ (w : List ℕ). numbered (anew c p w old new.key) 0 families) words_are
+        ∙ written_are c p s id old opens (with_id id new.props p.roots) id (owned_once_root c p s id new.props) families are_families new.seed new.key
+        ∙ ap (λ (e : List (ℕ × Stored)). rewrapped c new.seed old new.key 0 e) (owned_alike p id opts new.props);
       }

@@ -1,12 +1,14 @@
 -- The plan of an inherit is its step, and what refuses it refuses the step.
-use Rattle.std.proofs.Common.{◌≡◌, ℕ, Bool, true, false, not, cond, ◌&&◌, ◌==◌, List, [], ◌∷◌, map, Option, Some, None, Result, Ok, Err, IfSome, is_some, option_map, refl, ap, sym, ◌∙◌, subst}
+use Rattle.std.proofs.Common.{◌≡◌, ℕ, Bool, true, false, not, cond, ◌&&◌, ◌==◌, List, [], ◌∷◌, map, Option, Some, None, Result, Ok, Err, IfOk, IfSome, is_some, option_map, refl, ap, sym, ◌∙◌, subst}
 use Rattle.std.proofs.lemmas.Bool.{cases_Bool}
 use Rattle.std.specs.Prelude.{unwrap_or, if◌then◌else◌}
 use Rattle.std.specs.List.{All}
 use Rattle.std.specs.Option.{option_and_then}
+use Rattle.std.specs.Result.{result_err}
 use Rattle.dataset_tree.specs.Refusal.{number_of}
 use Rattle.dataset_tree.specs.declared.refusal.Refusal.{Refusal}
 use Rattle.dataset_tree.specs.declared.refusal.Refusal.TheVariants.{WrongKey, KeyUnavailable, EntropyFault}
+use Rattle.dataset_tree.specs.declared.refusal.Stop.{Stop}
 use Rattle.dataset_tree.specs.declared.tree.Row.{Row}
 use Rattle.dataset_tree.specs.Tree.{row_of, row_named}
 use Rattle.encryption_roots.specs.declared.command.KeyCmd.{KeyCmd}
@@ -17,6 +19,7 @@ use Rattle.encryption_roots.specs.declared.kit.SeedGot.{SeedGot}
 use Rattle.encryption_roots.specs.declared.kit.SeedGot.TheVariants as seeds
 use Rattle.encryption_roots.specs.declared.props.Props.{Props}
 use Rattle.encryption_roots.specs.ById.{at_id, without_id}
+use Rattle.encryption_roots.specs.Owned.{owned_families}
 use Rattle.encryption_roots.specs.Owners.{family}
 use Rattle.encryption_roots.proofs.OwnerLemmas.{owner_of_root}
 use Rattle.key_machine.specs.declared.view.ChangePlan.{ChangePlan}
@@ -24,7 +27,7 @@ use Rattle.key_machine.specs.Create.{has_parent_key}
 use Rattle.key_machine.specs.Fair.{AreSound, IsGenuine, AllOpen, families_written}
 use Rattle.key_machine.specs.Inherit.{inherit_cases, inherit_material, row_above, unless_seed, key_fault, key_above, told_inherited, told_inherit, inherit_families, inherit_key, inherited, inherit_done}
 use Rattle.key_machine.specs.Plain.{Plain, Stored, Ciphers, owner_of, is_root, is_same, owned, has_key_of, mkey}
-use Rattle.key_machine.specs.Plan.{planned}
+use Rattle.key_machine.specs.Plan.{planned, IsPlanned}
 use Rattle.key_machine.specs.Refusals.{first_refusal}
 use Rattle.key_machine.specs.Rekey.{fetches_old, fetched_old, present_props, present_key as loaded_key, old_key, old_wrong, rewrapped, told_anew}
 use Rattle.key_machine.specs.Reply.{Stepped, Done, refused}
@@ -39,12 +42,12 @@ use Rattle.key_machine.proofs.RekeyFair.{is_old_key}
 use Rattle.key_machine.proofs.RekeyLaws.{inherit_step, inherit_keeps_masters}
 use Rattle.key_machine.proofs.RekeyRecords.{rewrapped_ids}
 use Rattle.key_machine.proofs.SoundLemmas.{refused_by_material}
-use Rattle.change_key.specs.Keys.{unless_told_wrong, root_key, loaded_above}
-use Rattle.change_key.specs.Plans.{stepped, IsPlanOf, KeepsMasters, IsToldInherit, OpensPresent}
-use Rattle.change_key.specs.Records.{opened_in}
-use Rattle.change_key.proofs.FamilyRecords.{entries_found, entries_open, owner_named}
+use Rattle.change_key.specs.Keys.{unless_told_wrong, root_key, loaded_above, StopsAt}
+use Rattle.change_key.specs.Plans.{stepped, AnswersPlan, IsPlanOf, KeepsMasters, IsToldInherit, OpensPresent}
+use Rattle.change_key.specs.Records.{opened_in, anew as by_number, numbered}
+use Rattle.change_key.proofs.FamilyRecords.{entries_found, entries_open, owner_named, written_are}
 use Rattle.change_key.proofs.KeyLemmas.{root_key_is}
-use Rattle.change_key.proofs.PlanLemmas.{plan_state, planned_is, no_record, wrong_first, key_had}
+use Rattle.change_key.proofs.PlanLemmas.{plan_state, planned_is, no_record, wrong_first, key_had, answers_fault}
 use Rattle.change_key.proofs.RecordLemmas.{same_masters, set_by_ids}
 
 -- ---- what the material refuses
@@ -74,6 +77,10 @@ module _ (c : Ciphers) (p : Plain) (id : ℕ) (load_first : Bool) (above : Bool)
   rest_of old new (seeds.Got seed) none = ap (λ (o : Option ℕ). first_refusal (None ∷ option_map (λ dataset. WrongKey dataset) o ∷ (if above then None else Some KeyUnavailable) ∷ None ∷ [])) none
   rest_of old new seeds.Fault none = ap (λ (o : Option ℕ). first_refusal (None ∷ option_map (λ dataset. WrongKey dataset) o ∷ (if above then None else Some KeyUnavailable) ∷ Some EntropyFault ∷ [])) none
   rest_of old new seeds.NotAsked none = ap (λ (o : Option ℕ). first_refusal (None ∷ option_map (λ dataset. WrongKey dataset) o ∷ (if above then None else Some KeyUnavailable) ∷ Some EntropyFault ∷ [])) none
+
+failed_seed : (seed : Result (List ℕ) Refusal) (why : Refusal) → result_err seed ≡ Some why → seed ≡ Err why
+failed_seed (Ok seed) why failed = absurd (cc)
+failed_seed (Err first) why failed = let same : first ≡ why = cc in ap (λ (w : Refusal). Err w) same
 
 fault_is : (c : Ciphers) (p : Plain) (id : ℕ) (load_first : Bool) (old new : List ℕ) (seed : Result (List ℕ) Refusal) (why : Refusal) → seed ≡ Err why
     → (told_anew (old_wrong c p id load_first) (told_inherited c p id load_first) (Ok old) (Ok new) seed).fault ≡ Some why
@@ -249,3 +256,39 @@ module _ (c : Ciphers) (are : AreSound c) (p : Plain) (s : Sound c p) (name : Li
           kept = λ dataset has.
               ap (λ (q : Plain). mkey c q (family p.tree.rows dataset)) plan_is ∙ inherit_keeps_masters c p name load_first facts dataset s (told_fair c p inherit kit are s) accepted has;
         }
+
+      -- the answers of the call
+      pub answers : (result : Result ChangePlan Stop) → IfOk result (IsToldInherit c p id kit old new) → StopsAt result (result_err (seed_of kit.seed)) → AnswersPlan result (stepped c p inherit kit).reply
+      answers (Ok plan) of_kit stops = done plan of_kit
+      answers (Err stop) of_kit stops =
+          answers_fault stop (result_err (seed_of kit.seed)) (stepped c p inherit kit).reply stops (λ why failed. ap (λ (st : Stepped). st.reply) (seed_stops why (failed_seed (seed_of kit.seed) why failed)))
+
+      pub plans : (result : Result ChangePlan Stop) → IfOk result (IsToldInherit c p id kit old new) → IfOk result (λ plan. IsPlanOf c p inherit kit (old_key c p plan.root load_first kit.old_key) (loaded_above p plan.root) plan)
+      plans (Ok plan) of_kit = is_plan plan of_kit
+      plans (Err stop) of_kit = tt
+
+      pub planned_of : (result : Result ChangePlan Stop) → IfOk result (IsToldInherit c p id kit old new) → IfOk result (IsPlanned c p)
+      planned_of (Ok plan) of_kit = record { command = inherit; kit = kit; rekeying = tt; accepted = accepted plan of_kit; state = sym (plan_is plan of_kit) }
+      planned_of (Err stop) of_kit = tt
+
+-- ---- the plan that the call makes
+
+root_owns : (c : Ciphers) (p : Plain) → Sound c p → (id : ℕ) → is_root p id ≡ true → owner_of p id ≡ Some id
+root_owns c p s id root =
+    let crypt = s.tree.roots_encrypted id root in
+    owner_of_root p.tree p.roots id crypt.0 (s.tree.tree, crypt.1) crypt.2 root
+
+module _ (c : Ciphers) (p : Plain) (s : Sound c p) (id : ℕ) (root : is_root p id ≡ true) (kit : LineKit) (old new : List ℕ) (opens : OpensPresent c p id old) where
+  pub of_root : (family : ℕ) → is_same id (owner_of p family) ≡ true → owner_of p family ≡ owner_of p id
+  of_root family own = owner_named id (owner_of p family) own ∙ sym (root_owns c p s id root)
+
+  pub told_plan : (seed families : List ℕ) → seed_of kit.seed ≡ Ok seed → families ≡ owned_families p.tree.rows p.roots id → (words : List ℕ) → words ≡ seed → (plan : ChangePlan) → plan.root ≡ id → plan.props ≡ None
+      → plan.key ≡ None → plan.wrapped.items ≡ numbered (by_number c p words old new) 0 families → IsToldInherit c p id kit old new plan
+  told_plan seed families had are_families words words_are plan root_is props key records = record {
+    seed = seed;
+    had_seed = had;
+    root = root_is;
+    props = props;
+    loaded = key;
+    records = records ∙ ap (λ (w : List ℕ). numbered (by_number c p w old new) 0 families) words_are ∙ written_are c p s id old opens p.roots id of_root families are_families seed new;
+  }
