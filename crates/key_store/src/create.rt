@@ -97,7 +97,12 @@ impl KeyState {
     }
 
     /// The record that the seed of a line makes under the parent's key.
-    fn new_heir(&self, name: &SetName, opts: &Options, kit: &LineKit) -> Result<FamilyRecord, Refusal>
+    fn new_heir(
+        &self,
+        name: &SetName,
+        opts: &Options,
+        kit: &LineKit,
+    ) -> Result<FamilyRecord, Refusal>
         requires heir { makes_heir self.now name.now opts.now ≡ true }
         requires record_size { IfSome opts.now.block IsRecordSize }
         ensures { GivesHeir self.now.tree.last opts.now (told ciphers self.now (commands.Create name.now opts.now) kit.now) (parent_key self.now (parent_row self.now name.now)) result }

@@ -154,7 +154,12 @@ impl KeyState {
         })
     }
 
-    fn wanted_by_change(&self, name: &SetName, opts: &Options, load_first: bool) -> Result<Needs, NoMemory>
+    fn wanted_by_change(
+        &self,
+        name: &SetName,
+        opts: &Options,
+        load_first: bool,
+    ) -> Result<Needs, NoMemory>
         ensures { IfOk result (λ needs. needs ≡ needs_of (wanted self.now (commands.Change name.now opts.now load_first))) }
     {
         let old_place = place_or_none(self.old_place(name, load_first))?;
@@ -178,7 +183,11 @@ impl KeyState {
     }
 
     /// The command's place, else the dataset's own, else the prompt.
-    fn place_of_new_key(&self, name: &SetName, place: &Option<Location>) -> Result<Location, NoMemory>
+    fn place_of_new_key(
+        &self,
+        name: &SetName,
+        place: &Option<Location>,
+    ) -> Result<Location, NoMemory>
         ensures { IfOk result (λ found. found ≡ unwrap_or place.now (unwrap_or (own_place self.now name.now) Location.Prompt)) }
     {
         match place {
