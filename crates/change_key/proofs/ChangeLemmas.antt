@@ -213,8 +213,8 @@ module _ (c : Ciphers) (p : Plain) (s : Sound c p) (id : ℕ) (opts : Options) (
   pub told_plan : (own : Option Props) → own ≡ at_id id p.roots → (new : NewKey) → IsNewKey c own opts kit new → (families : List ℕ) → families ≡ owned_families p.tree.rows (with_id id new.props p.roots) id
       → (words : List ℕ) → words ≡ new.seed → (plan : ChangePlan) → plan.root ≡ id → plan.props ≡ Some new.props → plan.key ≡ Some new.key
       → plan.wrapped.items ≡ numbered (anew c p words old new.key) 0 families → IsToldChange c p id opts kit old plan
-  told_plan own own_is new is_new families are_families words words_are plan root props key records =
-      let is : IsNewKey c (at_id id p.roots) opts kit new = subst (λ (o : Option Props). IsNewKey c o opts kit new) own_is is_new in
+  told_plan had had_is new is_new families are_families words words_are plan root props key records =
+      let is : IsNewKey c (at_id id p.roots) opts kit new = subst (λ (o : Option Props). IsNewKey c o opts kit new) had_is is_new in
       record {
         seed = new.seed;
         key = new.key;

@@ -5,6 +5,7 @@ use Rattle.dataset_tree.specs.declared.refusal.Refusal.TheVariants.{WrongKey}
 use Rattle.dataset_tree.specs.declared.refusal.Stop.{Stop}
 use Rattle.dataset_tree.specs.declared.refusal.Stop.TheVariants as stops
 use Rattle.dataset_tree.specs.Refusal.{Gives}
+use Rattle.dataset_tree.specs.Tree.{Datasets, id_named}
 use Rattle.encryption_roots.specs.declared.props.Props.{Props}
 use Rattle.encryption_roots.specs.ById.{at_id}
 use Rattle.std.specs.List.{filter}
@@ -70,7 +71,12 @@ wrong_first key (Some family) rest why told = let same : WrongKey family ≡ why
 -- a key that was had and has no wrong record
 pub key_had : (had : Result (List ℕ) Refusal) (wrong : List ℕ → Option ℕ) (old : List ℕ) → unless_told_wrong had wrong ≡ Ok old → (had ≡ Ok old) × (wrong old ≡ None)
 key_had (Err why) wrong old told = absurd (cc)
-key_had (Ok key) wrong old told = by (wrong key) refl told where
-  by : (found : Option ℕ) → wrong key ≡ found → unless_wrong key found ≡ Ok old → (Ok {E = Refusal} key ≡ Ok old) × (wrong old ≡ None)
-  by None is told = let same : key ≡ old = cc in (told, ap wrong (sym same) ∙ is)
+key_had (Ok key) wrong old told = let both = by (wrong key) refl told in (ap (λ (k : List ℕ). Ok k) both.0, both.1) where
+  by : (found : Option ℕ) → wrong key ≡ found → unless_wrong key found ≡ Ok old → (key ≡ old) × (wrong old ≡ None)
+  by None is told = let same : key ≡ old = cc in (same, ap wrong (sym same) ∙ is)
   by (Some family) is told = absurd (cc)
+
+-- ---- the dataset of a name
+
+pub named : (p : Plain) (name : List ℕ) (tree : Datasets) (found : Option ℕ) (id : ℕ) → tree ≡ p.tree → found ≡ id_named name tree.rows → found ≡ Some id → id_named name p.tree.rows ≡ Some id
+named p name tree found id tree_is found_is is = sym (found_is ∙ ap (λ (t : Datasets). id_named name t.rows) tree_is) ∙ is
