@@ -187,7 +187,7 @@ module _ (c : Ciphers) (are : AreSound c) (p : Plain) (s : Sound c p) (name : Li
         state = plan_is;
         root = at ∙ ap (λ (m : ℕ). Some m) (sym of_kit.root);
         families = ap (λ (r : List (ℕ × List ℕ)). map (λ entry. entry.0) r) of_kit.records
-        ∙ rewrapped_ids c of_kit.seed old of_kit.key 0 (owned (with_own_root p id opts 0) id) ∙ sym (ap (change_families p opts) at);
+            ∙ rewrapped_ids c of_kit.seed old of_kit.key 0 (owned (with_own_root p id opts 0) id) ∙ sym (ap (change_families p opts) at);
         masters = masters;
         kept = λ dataset has.
             ap (λ (q : Plain). mkey c q (family p.tree.rows dataset)) plan_is ∙ change_keeps_masters c p name opts load_first facts dataset s (told_fair c p change kit are s) accepted has;
@@ -222,10 +222,10 @@ module _ (c : Ciphers) (p : Plain) (s : Sound c p) (id : ℕ) (opts : Options) (
         had_key = is.key;
         root = root;
         props = props ∙ ap (λ (n : Props). Some n) is.props
-        ∙ ap (λ (k : Result (List ℕ) Refusal). Some (changed_props (at_id id p.roots) opts (changed_salt c (at_id id p.roots) opts k))) is.seed;
+            ∙ ap (λ (k : Result (List ℕ) Refusal). Some (changed_props (at_id id p.roots) opts (changed_salt c (at_id id p.roots) opts k))) is.seed;
         loaded = key;
         records = records
-        ∙ ap (λ (w : List ℕ). numbered (anew c p w old new.key) 0 families) words_are
-        ∙ written_are c p s id old opens (with_id id new.props p.roots) id (owned_once_root c p s id new.props) families are_families new.seed new.key
-        ∙ ap (λ (e : List (ℕ × Stored)). rewrapped c new.seed old new.key 0 e) (owned_alike p id opts new.props);
+            ∙ ap (λ (w : List ℕ). numbered (anew c p w old new.key) 0 families) words_are
+            ∙ written_are c p s id old opens (with_id id new.props p.roots) id (owned_once_root c p s id new.props) families are_families new.seed new.key
+            ∙ ap (λ (e : List (ℕ × Stored)). rewrapped c new.seed old new.key 0 e) (owned_alike p id opts new.props);
       }

@@ -1,4 +1,5 @@
--- The records of families that a dataset owns: they open under the present key, and are written anew by the families' ids.
+-- The records of families that a dataset owns: they open under the present key, and are written
+-- anew by the families' ids.
 use Rattle.std.proofs.Common.{◌≡◌, ℕ, ◌<◌, ◌≤◌, Bool, true, false, cond, List, [], ◌∷◌, map, get_or, Option, Some, None, IfSome, is_some, refl, ap, sym, ◌∙◌, subst, arith, ⊎_elim}
 use Rattle.std.proofs.lemmas.Bool.{eqb-true}
 use Rattle.std.proofs.lemmas.List.Elements.{All-nil, All-cons, All-head, All-tail}

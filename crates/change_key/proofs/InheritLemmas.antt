@@ -94,6 +94,7 @@ old_fault_apart c p id load_first fetched why apart = by_fetch (fetches_old p id
   by_props : (own : Option Props) → fetched_old c own fetched ≡ Err why → IsApart why
   by_props None failed = absurd (cc)
   by_props (Some props) failed = apart props why failed
+
   by_fetch : (b : Bool) → cond b (fetched_old c (present_props p id) fetched) (Ok (loaded_key p id)) ≡ Err why → IsApart why
   by_fetch true failed = by_props (present_props p id) failed
   by_fetch false failed = absurd (cc)
@@ -204,8 +205,8 @@ module _ (c : Ciphers) (are : AreSound c) (p : Plain) (s : Sound c p) (name : Li
         accepted = record {
           state = state;
           material = ap (λ (t : Told). refusal_by has_above t) facts_are
-          ∙ ap (λ (o : Option ℕ). first_refusal (None ∷ option_map (λ dataset. WrongKey dataset) o ∷ (if has_above then None else Some KeyUnavailable) ∷ None ∷ [])) had.1
-          ∙ ap (λ b. first_refusal (None ∷ None ∷ (if b then None else Some KeyUnavailable) ∷ None ∷ [])) is_above;
+              ∙ ap (λ (o : Option ℕ). first_refusal (None ∷ option_map (λ dataset. WrongKey dataset) o ∷ (if has_above then None else Some KeyUnavailable) ∷ None ∷ [])) had.1
+              ∙ ap (λ b. first_refusal (None ∷ None ∷ (if b then None else Some KeyUnavailable) ∷ None ∷ [])) is_above;
         }
 
         step : stepped c p inherit kit ≡ inherit_done p facts (Some id)

@@ -90,7 +90,8 @@ all_open c p old new records same opens = λ k d within. ap (λ (m : Option Mast
 
 -- ---- the stored records with those of a plan
 
--- where a plan has no record of a family that the root doesn't own, its records are set by their ids alone
+-- where a plan has no record of a family that the root doesn't own, its records are set by their
+-- ids alone
 pub set_by_ids : (owner : ℕ → Option ℕ) (root : ℕ) (records : List (ℕ × List ℕ)) (stored : List (ℕ × Stored)) → ((at : ℕ) → is_same root (owner at) ≡ false → at_id at records ≡ None)
     → map (λ entry. (entry.0, with_record records entry)) stored ≡ with_records owner root records stored
 set_by_ids owner root records [] none = refl

@@ -28,14 +28,16 @@ use Rattle.change_key.specs.Records.{opened_in}
 abbrev pub stepped : Ciphers → Plain → KeyCmd → LineKit → Stepped
 stepped c p command kit = key_step p command (told c p command kit)
 
--- A call that plans gives a plan exactly where the step is done, and is refused exactly as the step is, want of memory apart.
+-- A call that plans gives a plan exactly where the step is done, and is refused exactly as the step
+-- is, want of memory apart.
 abbrev pub AnswersPlan : {T : Type 0} → Result T Stop → Reply → Type 0
 AnswersPlan (Ok _) reply = reply ≡ Done
 AnswersPlan (Err (stops.Refused why)) reply = reply ≡ Refused why
 AnswersPlan (Err stops.NoMemory) reply = Unit {0}
 
--- The present key was had, loaded or fetched for this line, and there is a new key. Under that each record of these opens, and to the master
--- key to which the family's stored record opens under the present key.
+-- The present key was had, loaded or fetched for this line, and there is a new key. Under that each
+-- record of these opens, and to the master key to which the family's stored record opens under the
+-- present key.
 pub record KeepsMasters (c : Ciphers) (p : Plain) (present : Result (List ℕ) Why) (new : Option (List ℕ)) (records : List (ℕ × List ℕ)) : Type 0 where
   pub old : List ℕ
   pub key : List ℕ
@@ -44,8 +46,9 @@ pub record KeepsMasters (c : Ciphers) (p : Plain) (present : Result (List ℕ) W
   pub opens : All (λ entry. is_some (c.opens entry.1 key) ≡ true) records
   pub same : All (λ entry. c.opens entry.1 key ≡ opened_in c p old entry.0) records
 
--- The command is accepted, and the plan makes its state. The plan is about the command's dataset, and has the records of exactly the families
--- whose records the command writes, in order of id, with their master keys. So each family's master key is what it was, wherever the key of its owner
+-- The command is accepted, and the plan makes its state. The plan is about the command's dataset,
+-- and has the records of exactly the families whose records the command writes, in order of id,
+-- with their master keys. So each family's master key is what it was, wherever the key of its owner
 -- was loaded.
 pub record IsPlanOf (c : Ciphers) (p : Plain) (command : KeyCmd) (kit : LineKit) (present : Result (List ℕ) Why) (new : Option (List ℕ)) (plan : ChangePlan) : Type 0 where
   pub accepted : IsAccepted p command (told c p command kit)

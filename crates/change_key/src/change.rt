@@ -31,14 +31,17 @@ const MIN_ITERATIONS: u64 = 100_000;
 
 const MAX_ITERATIONS: u64 = 10_000_000;
 
-/// Plans `change-key`: the dataset becomes a root, or stays one, with a new wrapping key, and the records of the families that it
-/// then owns stand under that key, with the same master keys. The present key is fetched only with `load_first` and where it isn't
-/// loaded, and serves this line alone.
+/// Plans `change-key`: the dataset becomes a root, or stays one, with a new wrapping key, and the
+/// records of the families that it then owns stand under that key, with the same master keys. The
+/// present key is fetched only with `load_first` and where it isn't loaded, and serves this line
+/// alone.
 ///
 /// # Errors
-/// `NoSuch`, `NotEncrypted`, `IsClone`, `BadOptions`, `BadIters`, and `KeyUnavailable` without `load_first`. Then those of the
-/// present key where it is fetched: `KeyFileMissing` or `KeyFault`, `BadMaterial`, and `WrongKey` of the first family, by id, whose
-/// record doesn't open. Then those of the new key, and `EntropyFault`. What the kit wasn't asked for counts as a taking that failed.
+/// `NoSuch`, `NotEncrypted`, `IsClone`, `BadOptions`, `BadIters`, and `KeyUnavailable` without
+/// `load_first`. Then those of the present key where it is fetched: `KeyFileMissing` or `KeyFault`,
+/// `BadMaterial`, and `WrongKey` of the first family, by id, whose record doesn't open. Then those
+/// of the new key, and `EntropyFault`. What the kit wasn't asked for counts as a taking that
+/// failed.
 pub fn plan_change<V: KeyView>(
     alloc: Global,
     state: &V,
@@ -48,8 +51,11 @@ pub fn plan_change<V: KeyView>(
     kit: &LineKit,
 ) -> Result<ChangePlan, Stop>
     requires sound { Sound ciphers (V.shows state.now) }
-    ensures reply { AnswersPlan result (stepped ciphers (V.shows state.now) (commands.Change name.now opts.now load_first) kit.now).reply }
-    ensures plan { IfOk result (λ plan. IsPlanOf ciphers (V.shows state.now) (commands.Change name.now opts.now load_first) kit.now
+    ensures reply { AnswersPlan result
+        (stepped ciphers (V.shows state.now)
+        (commands.Change name.now opts.now load_first) kit.now).reply }
+    ensures plan { IfOk result (λ plan. IsPlanOf ciphers (V.shows state.now)
+        (commands.Change name.now opts.now load_first) kit.now
         (old_key ciphers (V.shows state.now) plan.root load_first kit.now.old_key) plan.key plan) }
     ensures planned { IfOk result (IsPlanned ciphers (V.shows state.now)) }
 {
@@ -153,8 +159,11 @@ fn change_with<V: KeyView>(
     requires sound { Sound ciphers (V.shows state.now) }
     requires iterations { are_bad_iterations opts.now.iters ≡ false }
     requires opens { OpensPresent ciphers (V.shows state.now) id old.now }
-    ensures plan { IfOk result (IsToldChange ciphers (V.shows state.now) id opts.now kit.now old.now) }
-    ensures fault { StopsAt result (first_fault (new_key_of ciphers (at_id id (V.shows state.now).roots) opts.now kit.now) (seed_of kit.now.seed)) }
+    ensures plan { IfOk result
+        (IsToldChange ciphers (V.shows state.now) id opts.now kit.now old.now) }
+    ensures fault { StopsAt result
+        (first_fault (new_key_of ciphers (at_id id (V.shows state.now).roots) opts.now kit.now)
+        (seed_of kit.now.seed)) }
 {
     let new = match new_key(state.roots().get(id), opts, kit) {
         Ok(new) => new,

@@ -25,15 +25,16 @@ use key_machine::{ChangePlan, KeyView};
 use salt_rotation::SeedWords;
 use std::alloc::Global;
 
-/// Plans `change-key -i`: a root is one no longer and uses its parent's key, and the records of the families that it owned stand
-/// under that key, with the same master keys. Its own key is fetched only with `load_first` and where it isn't loaded, and serves
-/// this line alone.
+/// Plans `change-key -i`: a root is one no longer and uses its parent's key, and the records of the
+/// families that it owned stand under that key, with the same master keys. Its own key is fetched
+/// only with `load_first` and where it isn't loaded, and serves this line alone.
 ///
 /// # Errors
-/// `NoSuch`, `NotEncrypted`, `IsClone`, `NotRoot`, `NoEncryptedParent`, and `KeyUnavailable` without `load_first`. Then those of the
-/// present key where it is fetched: `KeyFileMissing` or `KeyFault`, `BadMaterial`, and `WrongKey` of the first family, by id, whose
-/// record doesn't open. Then `KeyUnavailable` where the key of the parent's owner isn't loaded, and `EntropyFault`. What the kit
-/// wasn't asked for counts as a taking that failed.
+/// `NoSuch`, `NotEncrypted`, `IsClone`, `NotRoot`, `NoEncryptedParent`, and `KeyUnavailable`
+/// without `load_first`. Then those of the present key where it is fetched: `KeyFileMissing` or
+/// `KeyFault`, `BadMaterial`, and `WrongKey` of the first family, by id, whose record doesn't open.
+/// Then `KeyUnavailable` where the key of the parent's owner isn't loaded, and `EntropyFault`. What
+/// the kit wasn't asked for counts as a taking that failed.
 pub fn plan_inherit<V: KeyView>(
     alloc: Global,
     state: &V,
@@ -42,9 +43,13 @@ pub fn plan_inherit<V: KeyView>(
     kit: &LineKit,
 ) -> Result<ChangePlan, Stop>
     requires sound { Sound ciphers (V.shows state.now) }
-    ensures reply { AnswersPlan result (stepped ciphers (V.shows state.now) (commands.Inherit name.now load_first) kit.now).reply }
-    ensures plan { IfOk result (λ plan. IsPlanOf ciphers (V.shows state.now) (commands.Inherit name.now load_first) kit.now
-        (old_key ciphers (V.shows state.now) plan.root load_first kit.now.old_key) (loaded_above (V.shows state.now) plan.root) plan) }
+    ensures reply { AnswersPlan result
+        (stepped ciphers (V.shows state.now)
+        (commands.Inherit name.now load_first) kit.now).reply }
+    ensures plan { IfOk result (λ plan. IsPlanOf ciphers (V.shows state.now)
+        (commands.Inherit name.now load_first) kit.now
+        (old_key ciphers (V.shows state.now) plan.root load_first kit.now.old_key)
+        (loaded_above (V.shows state.now) plan.root) plan) }
     ensures planned { IfOk result (IsPlanned ciphers (V.shows state.now)) }
 {
     if let Some(why) = inherit_refusal(state, name, load_first) {
@@ -135,7 +140,8 @@ fn inherit_with<V: KeyView>(
     requires sound { Sound ciphers (V.shows state.now) }
     requires root { is_root (V.shows state.now) id ≡ true }
     requires opens { OpensPresent ciphers (V.shows state.now) id old.now }
-    ensures plan { IfOk result (IsToldInherit ciphers (V.shows state.now) id kit.now old.now new.now) }
+    ensures plan { IfOk result
+        (IsToldInherit ciphers (V.shows state.now) id kit.now old.now new.now) }
     ensures fault { StopsAt result (result_err (seed_of kit.now.seed)) }
 {
     let seed = match seed_got(kit.seed) {

@@ -24,12 +24,15 @@ pub(crate) struct NewKey {
     pub(crate) seed: [u8; 32],
 }
 
-/// What the material and the seed of a line make of a dataset with these properties of its own. A fault of the material comes
-/// before one of the seed, and no key is derived before both are had.
+/// What the material and the seed of a line make of a dataset with these properties of its own. A
+/// fault of the material comes before one of the seed, and no key is derived before both are had.
 pub(crate) fn new_key(own: Option<&Props>, opts: &Options, kit: &LineKit) -> Result<NewKey, Stop>
     requires iterations { are_bad_iterations opts.now.iters ≡ false }
-    ensures key { IfOk result (λ new. IsNewKey ciphers (option_copied own.entry) opts.now kit.now new) }
-    ensures fault { StopsAt result (first_fault (new_key_of ciphers (option_copied own.entry) opts.now kit.now) (seed_of kit.now.seed)) }
+    ensures key { IfOk result
+        (λ new. IsNewKey ciphers (option_copied own.entry) opts.now kit.now new) }
+    ensures fault { StopsAt result
+        (first_fault (new_key_of ciphers (option_copied own.entry) opts.now kit.now)
+        (seed_of kit.now.seed)) }
 {
     let format = changed_format(own, opts);
     let iters = changed_iters(own, opts);
@@ -77,7 +80,8 @@ fn changed_place(own: Option<&Props>, opts: &Options) -> Result<Location, NoMemo
     }
 }
 
-/// The iterations of a passphrase: those of the options, else those of a present passphrase. 0 for another format.
+/// The iterations of a passphrase: those of the options, else those of a present passphrase. 0 for
+/// another format.
 fn changed_iters(own: Option<&Props>, opts: &Options) -> u32
     requires { are_bad_iterations opts.now.iters ≡ false }
     ensures { result ≡ changed_iters (option_copied own.entry) opts.now }
@@ -117,9 +121,12 @@ pub(crate) fn is_passphrase(format: Format) -> bool
     format == Format::Passphrase
 }
 
-/// The seed of a line whose new key has no fault, or the first fault of both. No key is derived for it.
+/// The seed of a line whose new key has no fault, or the first fault of both. No key is derived for
+/// it.
 fn seed_behind_key(format: Format, iters: u32, kit: &LineKit) -> Result<[u8; 32], Refusal>
-    ensures { (salt : ℕ) → result ≡ unless_fault (result_err (key_of ciphers format iters salt kit.now.new_key)) (seed_of kit.now.seed) }
+    ensures { (salt : ℕ) → result
+        ≡ unless_fault (result_err (key_of ciphers format iters salt kit.now.new_key))
+        (seed_of kit.now.seed) }
 {
     if let Some(why) = fetched_fault(format, iters, &kit.new_key) {
         return Err(why);

@@ -16,7 +16,8 @@ use key_ciphers::fetched_key;
 use key_machine::KeyView;
 use std::alloc::Global;
 
-/// The key of a root: the loaded one, else the one that was fetched, which opens each record that the root owns.
+/// The key of a root: the loaded one, else the one that was fetched, which opens each record that
+/// the root owns.
 pub(crate) fn root_key<V: KeyView>(
     alloc: Global,
     state: &V,
@@ -42,7 +43,8 @@ fn fetched_root_key<V: KeyView>(
 ) -> Result<[u8; 32], Stop>
     requires sound { Sound ciphers (V.shows state.now) }
     requires root { is_root (V.shows state.now) root ≡ true }
-    ensures { Gives result (tested_key ciphers (V.shows state.now) root (fetched_old ciphers (at_id root (V.shows state.now).roots) fetched.now)) }
+    ensures { Gives result (tested_key ciphers (V.shows state.now) root
+        (fetched_old ciphers (at_id root (V.shows state.now).roots) fetched.now)) }
 {
     let Some(props) = state.roots().get(root) else {
         unreachable!();

@@ -22,7 +22,9 @@ pub(crate) fn families_once_root<V: KeyView>(
     id: u32,
     props: &Props,
 ) -> Result<Vec<u32>, NoMemory>
-    ensures { IfOk result (λ families. families.items ≡ owned_families (V.shows state.now).tree.rows (with_id id props.now (V.shows state.now).roots) id) }
+    ensures { IfOk result (λ families. families.items
+        ≡ owned_families (V.shows state.now).tree.rows
+        (with_id id props.now (V.shows state.now).roots) id) }
 {
     let mut roots = state.roots().copy()?;
     roots.insert(id, props.copy()?)?;
@@ -31,7 +33,8 @@ pub(crate) fn families_once_root<V: KeyView>(
 
 /// The first of these families whose record doesn't open under the key.
 pub(crate) fn first_wrong<V: KeyView>(state: &V, families: &[u32], key: &[u8; 32]) -> Option<u32>
-    ensures { result ≡ find (λ family. not (opens_in ciphers (V.shows state.now) key.now family)) families.now }
+    ensures { result
+        ≡ find (λ family. not (opens_in ciphers (V.shows state.now) key.now family)) families.now }
 {
     match wrong_in(state, families, key) {
         None => None,
@@ -40,7 +43,8 @@ pub(crate) fn first_wrong<V: KeyView>(state: &V, families: &[u32], key: &[u8; 32
 }
 
 fn wrong_in<'a, V: KeyView>(state: &V, families: &'a [u32], key: &[u8; 32]) -> Option<&'a u32>
-    ensures { option_copied result ≡ find (λ family. not (opens_in ciphers (V.shows state.now) key.now family)) families.now }
+    ensures { option_copied result
+        ≡ find (λ family. not (opens_in ciphers (V.shows state.now) key.now family)) families.now }
 {
     families.iter().find(|family| !opens(state, **family, key))
 }
@@ -61,8 +65,8 @@ fn opened_by<V: KeyView>(state: &V, family: u32, key: &[u8; 32]) -> Option<Maste
     }
 }
 
-/// The records of these families under another key, each with its master key: the vector of the record with number i is the
-/// seed's of that number.
+/// The records of these families under another key, each with its master key: the vector of the
+/// record with number i is the seed's of that number.
 pub(crate) fn rewrapped<V: KeyView>(
     alloc: Global,
     state: &V,
@@ -72,8 +76,10 @@ pub(crate) fn rewrapped<V: KeyView>(
     new: &[u8; 32],
 ) -> Result<Vec<(u32, RecordBytes)>, NoMemory>
     requires rising { AllPairs (λ earlier later. earlier < later) families.now }
-    requires opened { All (λ family. opens_in ciphers (V.shows state.now) old.now family ≡ true) families.now }
-    ensures { IfOk result (λ records. records.items ≡ numbered (anew ciphers (V.shows state.now) seed.now old.now new.now) 0 families.now) }
+    requires opened { All (λ family. opens_in ciphers (V.shows state.now) old.now family ≡ true)
+        families.now }
+    ensures { IfOk result (λ records. records.items
+        ≡ numbered (anew ciphers (V.shows state.now) seed.now old.now new.now) 0 families.now) }
 {
     let mut records = Vec::new(alloc);
     for (number, family) in families.iter().enumerate() {

@@ -35,4 +35,3 @@ returns-clause-plan g c =
     told_plan ciphers p c.requires.sound c.args.id c.args.opts.now c.args.kit.now c.args.old.now c.requires.opens (option_copied c.get.result) own c.in-Ok.new c.in-Ok.ensures.key
     c.as_slice.result.now (c.as_slice.ensures.value ∙ c.in_ok-families.ensures) c.new-seed.result c.new-seed.ensures
     (record { root = c.args.id; props = Some c.in-Ok.new.props; key = Some c.in-Ok.new.key; wrapped = c.in_ok-wrapped.wrapped }) refl refl refl c.in_ok-wrapped.ensures
-
