@@ -20,7 +20,7 @@ use Rattle.key_machine.proofs.RekeyOwners.{splits, with_is_root, with_agrees, ow
 use Rattle.std.specs.Prelude.{◌&&◌}
 use Rattle.change_key.specs.Plans.{OpensPresent}
 use Rattle.change_key.specs.Records.{opened_in, opens_in, anew, numbered}
-use Rattle.key_machine.proofs.FamilyNames.{owned_ids}
+use Rattle.change_key.proofs.FamiliesLemmas.{families_are}
 use Rattle.change_key.proofs.KeyLemmas.{owned_found}
 use Rattle.change_key.proofs.RecordLemmas.{AllFound, opened_at, anew_is}
 
@@ -55,7 +55,7 @@ module _ (c : Ciphers) (p : Plain) (s : Sound c p) (id : ℕ) (old : List ℕ) (
 
   module _ (families : List ℕ) (are_families : families ≡ owned_families p.tree.rows roots root) where
     by_ids : map (λ (entry : ℕ × Stored). entry.0) entries ≡ families
-    by_ids = owned_ids p roots root s.tree ∙ sym are_families
+    by_ids = families_are p s.tree roots root ∙ sym are_families
 
     pub families_open : All (λ family. opens_in c p old family ≡ true) families
     families_open = subst (λ (ids : List ℕ). All (λ family. opens_in c p old family ≡ true) ids) by_ids ids_open

@@ -29,7 +29,7 @@ use Rattle.key_machine.specs.Told.{no_key, key_of, seed_of}
 use Rattle.key_machine.proofs.KeyLists.{each_found}
 use Rattle.change_key.specs.Keys.{unless_wrong, unless_told_wrong, tested_key, root_key, root_key_by, present_key, key_of_owner, new_key_of, unless_fault, first_fault}
 use Rattle.change_key.specs.Records.{opens_in}
-use Rattle.key_machine.proofs.FamilyNames.{owned_ids}
+use Rattle.change_key.proofs.FamiliesLemmas.{families_are}
 use Rattle.change_key.proofs.RecordLemmas.{AllFound, first_wrong_by_ids}
 
 -- ---- an owner is a root
@@ -64,7 +64,7 @@ pub first_wrong_of_root : (c : Ciphers) (p : Plain) → SoundTree p → (root : 
     → first_wrong c key (owned p root) ≡ find (λ family. not (opens_in c p key family)) (owned_families p.tree.rows p.roots root)
 first_wrong_of_root c p s root key =
     first_wrong_by_ids c p key (owned p root) (owned_found p s (λ (entry : ℕ × Stored). is_same root (owner_of p entry.0)))
-    ∙ ap (λ ids. find (λ family. not (opens_in c p key family)) ids) (owned_ids p p.roots root s)
+    ∙ ap (λ ids. find (λ family. not (opens_in c p key family)) ids) (families_are p s p.roots root)
 
 pub tested_is : (c : Ciphers) (p : Plain) → SoundTree p → (root : ℕ) (props : Props) (fetched : Fetched) (key families : List ℕ) (found : Option ℕ) → Some props ≡ at_id root p.roots
     → Ok key ≡ key_of c props.format props.iters props.salt fetched → families ≡ owned_families p.tree.rows p.roots root → found ≡ find (λ family. not (opens_in c p key family)) families

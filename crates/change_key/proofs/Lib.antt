@@ -1,3 +1,4 @@
+pub mod FamiliesLemmas
 pub mod RecordLemmas
 pub mod KeyLemmas
 pub mod FamilyRecords
