@@ -136,10 +136,10 @@ module _ (t : Datasets) (tree : IsTree t) where
       let test : (first.origin == 0) ≡ true = eq-eqb first.origin 0 none in
       let own : family t.rows id ≡ id = family_by_walking t id tree ∙ rw (is, test) refl in
       λ (row : Row) found.
-          let there : row_of id t.rows ≡ Some row = subst (λ (m : ℕ). row_of m t.rows ≡ Some row) own found in
-          let both : Some first ≡ Some row = sym is ∙ there in
-          let alike : first ≡ row = cc in
-          ap (λ (r : Row). r.origin) (sym alike) ∙ none)
+      let there : row_of id t.rows ≡ Some row = subst (λ (m : ℕ). row_of m t.rows ≡ Some row) own found in
+      let both : Some first ≡ Some row = sym is ∙ there in
+      let alike : first ≡ row = cc in
+      ap (λ (r : Row). r.origin) (sym alike) ∙ none)
       (λ (clone : first.origin ≢ 0).
       let same : family t.rows id ≡ family t.rows first.origin = family_of_clone t id first (tree, is) clone in
       λ (row : Row) found. lower first.origin (ids_fall t id first (tree, is)).1 row (subst (λ (m : ℕ). row_of m t.rows ≡ Some row) same found)) (cases_eq first.origin 0)
@@ -157,6 +157,7 @@ module _ (t : Datasets) (tree : IsTree t) where
     by_kind : (kind : Kind) (found : Option ℕ) → owner_by_kind kind found ≡ Some root → kind ≡ Crypt
     by_kind PlainKind found is = absurd (cc)
     by_kind Crypt found is = refl
+
     by_row : (found : Option Row) → row_of id t.rows ≡ found → owner_from roots id found (λ next. owner t.rows roots next) ≡ Some root → (row : Row) × (row_of id t.rows ≡ Some row) × (row.kind ≡ Crypt)
     by_row None is walked = absurd (cc)
     by_row (Some row) is walked = (row, is, by_kind row.kind _ walked)
