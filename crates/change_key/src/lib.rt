@@ -15,3 +15,6 @@ mod records;
 
 pub use change::plan_change;
 pub use inherit::plan_inherit;
+
+#[cfg(test)]
+mod tests;
