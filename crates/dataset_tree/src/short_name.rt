@@ -144,7 +144,11 @@ fn short_fault(text: &[u8], allowed: usize) -> Option<usize>
     ensures { result ≡ short_fault_at text.now (min 64 allowed) }
 {
     let good = allowed.min(MAX_SHORT_LEN);
-    if good > 0 && good == text.len() { None } else { Some(good) }
+    if good > 0 && good == text.len() {
+        None
+    } else {
+        Some(good)
+    }
 }
 
 fn is_file_byte(byte: u8) -> bool

@@ -1,5 +1,5 @@
 // The names of snapshots.
-ghost use Rattle.std.specs.Prelude.{◌≡◌, ◌==◌, ◌∷◌, ◌++◌, not, IfOk};
+ghost use Rattle.std.specs.Prelude.{◌≡◌, ◌==◌, ◌∷◌, ◌++◌, ◌≤◌, length, drop, not, IfOk};
 ghost use Rattle.std.specs.List.{prefix_len};
 ghost use Rattle.dataset_tree.specs.Refusal.{Gives};
 ghost use Rattle.dataset_tree.specs.SnapName.{snap_named, at_sign};
@@ -28,10 +28,10 @@ impl SnapName {
     {
         let sign = sign_in(bytes);
         let set = SetName::parse(alloc, &bytes[..sign])?;
-        if sign == bytes.len() {
+        if sign >= bytes.len() {
             return Err(bad_name(sign));
         }
-        let part = &bytes[sign + 1..];
+        let part = rest_from(bytes, sign + 1);
         if let Some(at) = part_fault(part) {
             return Err(bad_name(sign + 1 + at));
         }
@@ -54,4 +54,12 @@ fn sign_in(text: &[u8]) -> usize
     ensures { result ≡ prefix_len (λ b. not (b == at_sign)) text.now }
 {
     text.iter().take_while(|byte| **byte != b'@').count()
+}
+
+/// What stands from this offset on.
+fn rest_from(text: &[u8], at: usize) -> &[u8]
+    requires { at ≤ length text.now }
+    ensures { result.now ≡ drop at text.now }
+{
+    text.split_at(at).1
 }

@@ -28,13 +28,36 @@ fn a_tree_gives_ids_in_order_and_refuses(rt: HostRuntime) -> Result<(), Fail> {
         (row.id, row.parent, row.kind, row.origin),
         (2, 1, Kind::Crypt, 0)
     );
+    assert_eq!(rt; tree.remove(1), Err(Refusal::HasChildren));
+    assert_eq!(rt; tree.remove(2), Ok(()));
+    assert!(rt; tree.rows().len() == 1 && tree.last() == 2);
     names_find_their_rows();
     parents_stand_before_the_last_slash();
     Ok(())
 }
 
+/// Where a text isn't the name of a snapshot.
+fn snap_fault(alloc: Global, text: &str) -> Option<Stop> {
+    SnapName::parse(alloc, text.as_bytes()).err()
+}
+
+fn bad_name(at: u64) -> Option<Stop> {
+    Some(Stop::Refused(Refusal::BadName { at }))
+}
+
 #[test]
-fn suites_refusals_and_records_keep_their_forms(rt: HostRuntime) {
+fn suites_refusals_names_and_records_keep_their_forms(rt: HostRuntime) -> Result<(), Fail> {
+    let alloc = rt.alloc();
+    let name = SnapName::parse(alloc, b"tank/home@monday")?.copy()?;
+    assert_eq!(rt; name.set.as_bytes(), b"tank/home".as_slice());
+    assert_eq!(rt; name.snap.copy()?.as_bytes(), b"monday".as_slice());
+    assert_eq!(rt; snap_fault(alloc, "tank"), bad_name(4));
+    assert_eq!(rt; snap_fault(alloc, "tank/@b"), bad_name(5));
+    assert_eq!(rt; snap_fault(alloc, "tank@b@c"), bad_name(6));
+    let file = FileName::parse(alloc, b"notes.txt")?.copy()?;
+    assert_eq!(rt; file.as_bytes(), b"notes.txt".as_slice());
+    assert_eq!(rt; FileName::parse(alloc, b"a:b").err(), bad_name(1));
+    assert_eq!(rt; SnapPart::parse(alloc, &[b'a'; 65]).err(), bad_name(64));
     let suite = Suite::Aes192Gcm;
     assert_eq!(rt; Suite::from_number(7), Some(suite));
     assert_eq!(rt;
@@ -46,4 +69,5 @@ fn suites_refusals_and_records_keep_their_forms(rt: HostRuntime) {
     let record = RecordBytes::from_slice(b"abc");
     assert_eq!(rt; record.as_slice(), b"abc".as_slice());
     assert!(rt; record == RecordBytes::from_slice(b"abc"));
+    Ok(())
 }
