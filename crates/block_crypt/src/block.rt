@@ -45,8 +45,10 @@ pub fn seal_block<K: BlockKey>(key: &K, drawn: &Drawn, text: &mut [u8]) -> Seale
 /// `BadTag` where the MAC is not that of the sealed `text`, which is then as it was.
 pub fn open_block<K: BlockKey>(key: &K, sealed: &Sealed, text: &mut [u8]) -> Result<(), BadTag>
     requires { length text.old ≤ MAX_BLOCK_LEN }
-    ensures opened { OnOk result (opened_block (K.told key.now) sealed.now.salt sealed.now.iv text.old sealed.now.mac ≡ Some text.new) }
-    ensures bad_tag { IsErr result ↔ (opened_block (K.told key.now) sealed.now.salt sealed.now.iv text.old sealed.now.mac ≡ None) }
+    ensures opened { OnOk result (opened_block
+        (K.told key.now) sealed.now.salt sealed.now.iv text.old sealed.now.mac ≡ Some text.new) }
+    ensures bad_tag { IsErr result ↔
+        (opened_block (K.told key.now) sealed.now.salt sealed.now.iv text.old sealed.now.mac ≡ None) }
     ensures unchanged { OnErr result (text.new ≡ text.old) }
 {
     let suite = key.suite();

@@ -6,9 +6,9 @@ use wrapped_keys::MasterKey;
 
 const SUITES: [Suite; 3] = [Suite::Aes128Gcm, Suite::Aes192Gcm, Suite::Aes256Gcm];
 
-// From Python's package `cryptography`: what AES-GCM makes of the bytes 0 to 16 with the vector of `DRAWN` and no additional
-// data, under the key that HKDF with SHA-512 makes of a master key of the bytes from 128 on, with the salt of `DRAWN` as info;
-// the sealed bytes and then the tag.
+// From Python's package `cryptography`: what AES-GCM makes of the bytes 0 to 16 with the vector of `DRAWN`
+// and no additional data, under the key that HKDF with SHA-512 makes of a master key of the bytes from 128
+// on, with the salt of `DRAWN` as info; the sealed bytes and then the tag.
 const SEALED: [&[u8; 33]; 3] = [
     b"\x93\x35\x88\x9c\xd6\xa3\xbc\x66\xee\xe9\xe6\x01\xf0\xc2\x85\x11\x21\xbe\x48\x6e\x20\x3b\x01\x6a\x4a\x59\x0d\x9d\x21\x66\x3b\xbd\x8a",
     b"\xb8\xf1\x03\xd0\x49\xc5\xe6\xf9\x60\xc2\xfc\x94\x38\xc2\x00\xea\x94\x47\x88\x3a\xcc\x41\x08\x77\x77\x57\x15\x54\x69\xe0\x3e\x8b\xb1",

@@ -16,7 +16,8 @@ at_id id (entry ∷ entries) = if entry.0 == id then Some entry.1 else at_id id 
 abbrev pub with_id : {X : Type 0} → ℕ → X → List (ℕ × X) → List (ℕ × X)
 with_id id value [] = (id, value) ∷ []
 with_id id value (entry ∷ entries) =
-    if nat_lt entry.0 id then entry ∷ with_id id value entries else (if entry.0 == id then (id, value) ∷ entries else (id, value) ∷ entry ∷ entries)
+    if nat_lt entry.0 id then entry ∷ with_id id value entries
+    else (if entry.0 == id then (id, value) ∷ entries else (id, value) ∷ entry ∷ entries)
 
 abbrev pub without_id : {X : Type 0} → ℕ → List (ℕ × X) → List (ℕ × X)
 without_id id entries = filter (λ entry. not (entry.0 == id)) entries

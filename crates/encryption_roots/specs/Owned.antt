@@ -30,8 +30,8 @@ abbrev pub is_owner : ℕ → Option ℕ → Bool
 is_owner root None = false
 is_owner root (Some found) = found == root
 
--- The families whose key a root owns, in order of id: each is named by its first dataset. In a sound keystore they are the families
--- that have a record and this owner, since there each family has one record.
+-- The families whose key a root owns, in order of id: each is named by its first dataset. In a sound keystore
+-- they are the families that have a record and this owner, since there each family has one record.
 abbrev pub owned_families : List Row → List (ℕ × Props) → ℕ → List ℕ
 owned_families rows roots root = ids_where (λ row. begins_family row && is_owner root (owner rows roots row.id)) rows
 
@@ -43,7 +43,8 @@ below_from top id (Some row) further = (id == top) || further row.parent
 
 abbrev pub is_below_within : ℕ → List Row → ℕ → ℕ → Bool
 is_below_within zero rows top id = false
-is_below_within (suc steps) rows top id = below_from top id (row_of id rows) (λ next. is_below_within steps rows top next)
+is_below_within (suc steps) rows top id =
+    below_from top id (row_of id rows) (λ next. is_below_within steps rows top next)
 
 -- Whether a dataset stands at or below another, along the parents, of which there are at most as many as rows.
 abbrev pub is_below : List Row → ℕ → ℕ → Bool

@@ -1,5 +1,6 @@
--- A tree for worked values: `tank` (1), a root, with `tank/a` (2), which inherits its key, and `tank/b` (3), a root with the heir
--- `tank/b/x` (4); `copy` (5), a clone of `tank/a`, with `copy/r` (6), a root; `tank/b/y` (7), a clone of `tank/a`; and `lake` (8), which is plain.
+-- A tree for worked values: `tank` (1), a root, with `tank/a` (2), which inherits its key, and `tank/b` (3),
+-- a root with the heir `tank/b/x` (4); `copy` (5), a clone of `tank/a`, with `copy/r` (6), a root; `tank/b/y`
+-- (7), a clone of `tank/a`; and `lake` (8), which is plain.
 use Rattle.std.specs.Prelude.{ℕ, List, [], ◌∷◌, codes}
 use Rattle.dataset_tree.specs.declared.kinds.Format.TheVariants.{Raw}
 use Rattle.dataset_tree.specs.declared.kinds.Kind.TheVariants.{Plain, Crypt}

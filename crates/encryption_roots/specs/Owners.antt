@@ -21,13 +21,16 @@ owner_by_kind Crypt found = found
 -- the owner of a dataset with this row, given that of the dataset where the walk goes on
 abbrev pub owner_from : List (ℕ × Props) → ℕ → Option Row → (ℕ → Option ℕ) → Option ℕ
 owner_from roots id None further = None
-owner_from roots id (Some row) further = owner_by_kind row.kind (if is_some (props_of id roots) then Some id else further (next_to_owner row))
+owner_from roots id (Some row) further =
+    owner_by_kind row.kind (if is_some (props_of id roots) then Some id else further (next_to_owner row))
 
 abbrev pub owner_within : ℕ → List Row → List (ℕ × Props) → ℕ → Option ℕ
 owner_within zero rows roots id = None
-owner_within (suc steps) rows roots id = owner_from roots id (row_of id rows) (λ next. owner_within steps rows roots next)
+owner_within (suc steps) rows roots id =
+    owner_from roots id (row_of id rows) (λ next. owner_within steps rows roots next)
 
--- The owner: none for a plain dataset and where there is none of this id. No dataset comes twice on the walk, so it has at most as many steps as there are rows.
+-- The owner: none for a plain dataset and where there is none of this id. No dataset comes twice on the walk,
+-- so it has at most as many steps as there are rows.
 abbrev pub owner : List Row → List (ℕ × Props) → ℕ → Option ℕ
 owner rows roots id = owner_within (length rows) rows roots id
 
@@ -52,4 +55,5 @@ HasNoRow t id = IsTree t × (row_of id t.rows ≡ None)
 
 -- in a tree, no clone is plain or a root
 abbrev pub HasHeirsAsClones : Datasets → List (ℕ × Props) → Type 0
-HasHeirsAsClones t roots = IsTree t × All (λ row. row.origin ≢ 0 → (row.kind ≡ Crypt) × (props_of row.id roots ≡ None)) t.rows
+HasHeirsAsClones t roots =
+    IsTree t × All (λ row. row.origin ≢ 0 → (row.kind ≡ Crypt) × (props_of row.id roots ≡ None)) t.rows

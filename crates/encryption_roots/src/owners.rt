@@ -56,15 +56,18 @@ pub fn owners_by_walking()
     // Nothing owns the key of a dataset that isn't there, or that is plain.
     ensures owner_of_none { (t : Datasets) (roots : List (ℕ × RootProps)) (id : ℕ) → HasNoRow t id
         → owner t.rows roots id ≡ None }
-    ensures owner_of_plain { (t : Datasets) (roots : List (ℕ × RootProps)) (id : ℕ) (row : DatasetRow) → IsRowOf t id row
+    ensures owner_of_plain { (t : Datasets) (roots : List (ℕ × RootProps)) (id : ℕ) (row : DatasetRow)
+        → IsRowOf t id row
         → row.kind ≡ Kind.Plain → owner t.rows roots id ≡ None }
     // A root owns its own key, a clone has the owner of its origin, any other dataset that of its parent.
     ensures owner_of_root { (t : Datasets) (roots : List (ℕ × RootProps)) (id : ℕ) (row : DatasetRow) → IsRowOf t id row
         → row.kind ≡ Kind.Crypt → IsSome (props_of id roots) → owner t.rows roots id ≡ Some id }
-    ensures owner_of_clone { (t : Datasets) (roots : List (ℕ × RootProps)) (id : ℕ) (row : DatasetRow) → IsRowOf t id row
+    ensures owner_of_clone { (t : Datasets) (roots : List (ℕ × RootProps)) (id : ℕ) (row : DatasetRow)
+        → IsRowOf t id row
         → row.kind ≡ Kind.Crypt → props_of id roots ≡ None → row.origin ≢ 0
         → owner t.rows roots id ≡ owner t.rows roots row.origin }
-    ensures owner_of_child { (t : Datasets) (roots : List (ℕ × RootProps)) (id : ℕ) (row : DatasetRow) → IsRowOf t id row
+    ensures owner_of_child { (t : Datasets) (roots : List (ℕ × RootProps)) (id : ℕ) (row : DatasetRow)
+        → IsRowOf t id row
         → row.kind ≡ Kind.Crypt → props_of id roots ≡ None → row.origin ≡ 0
         → owner t.rows roots id ≡ owner t.rows roots row.parent }
     // A dataset that is no clone begins a family, and a clone is of its origin's.

@@ -30,7 +30,8 @@ impl Model for PathText {
 }
 
 impl PathText {
-    /// The path that this text spells, `None` exactly where it isn't one: 1 to 1024 bytes from `!` to `~`, the first `/`.
+    /// The path that this text spells, `None` exactly where it isn't one: 1 to 1024 bytes from `!` to `~`,
+    /// the first `/`.
     pub fn parse(alloc: Global, bytes: &[u8]) -> Result<Option<PathText>, NoMemory>
         ensures { IfOk result (λ path. path ≡ path_of bytes.now) }
     {

@@ -60,4 +60,5 @@ unless_faulty (Some why) key = Err why
 
 -- The wrapping key of 32 bytes, or the refusal of its material.
 abbrev pub wkey : Format → (material : List ℕ) (iters salt : ℕ) → Result (List ℕ) Refusal
-wkey format material iters salt = unless_faulty (material_fault format material iters) (material_key format material iters salt)
+wkey format material iters salt =
+    unless_faulty (material_fault format material iters) (material_key format material iters salt)

@@ -54,8 +54,9 @@ pub fn wrapping_key(
     }
 }
 
-/// Why material can't be a key in its format, which takes no derivation: `BadIters` where the iterations of a passphrase
-/// aren't 100000 to 10000000, else `BadMaterial` by its length, else by its first character that is no hexadecimal digit.
+/// Why material can't be a key in its format, which takes no derivation: `BadIters` where the iterations of a
+/// passphrase aren't 100000 to 10000000, else `BadMaterial` by its length, else by its first character that
+/// is no hexadecimal digit.
 pub fn material_fault(format: Format, material: &[u8], iters: u32) -> Option<Refusal>
     ensures { result ≡ material_fault format material.now iters }
 {
@@ -144,7 +145,8 @@ fn decoded(digits: &[u8]) -> [u8; KEY_LEN]
 
 /// The key that is derived from a passphrase.
 fn passphrase_key(phrase: &[u8], iters: u32, salt: u64) -> Result<[u8; KEY_LEN], Refusal>
-    ensures { result ≡ unless_faulty (passphrase_fault phrase.now iters) (pbkdf2 phrase.now (to_le_bytes w64 salt) iters 32) }
+    ensures { result ≡ unless_faulty (passphrase_fault phrase.now iters)
+        (pbkdf2 phrase.now (to_le_bytes w64 salt) iters 32) }
 {
     match passphrase_fault(phrase, iters) {
         Some(why) => Err(why),

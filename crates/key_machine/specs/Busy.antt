@@ -6,8 +6,8 @@ use Rattle.encryption_roots.specs.ById.{at_id}
 use Rattle.key_machine.specs.Plain.{Plain, owner_of}
 use Rattle.key_machine.specs.Users.{users_of}
 
--- The dataset is mapped and the root owns it; its mapping has this count of live users, at least 1; and those of the root's datasets
--- below it have none.
+-- The dataset is mapped and the root owns it; its mapping has this count of live users, at least 1; and those
+-- of the root's datasets below it have none.
 pub record IsFirstInUse (p : Plain) (root dataset count : ℕ) : Type 0 where
   pub mapping : (slot : ℕ) × (at_id dataset p.mapped ≡ Some slot) × (users_of p (dataset, slot) ≡ count)
   pub owned : owner_of p dataset ≡ Some root

@@ -41,21 +41,30 @@ kept_iters (Some props) = if is_passphrase (Some props.format) then props.iters 
 
 -- iterations for a passphrase, and none for other formats
 abbrev pub changed_iters : Option Props → Options → ℕ
-changed_iters own opts = if is_passphrase (Some (changed_format own opts)) then unwrap_or opts.iters (kept_iters own) else 0
+changed_iters own opts =
+    if is_passphrase (Some (changed_format own opts)) then unwrap_or opts.iters (kept_iters own) else 0
 
 -- a new salt for a passphrase, where a seed was had
 abbrev pub changed_salt : Ciphers → Option Props → Options → Result (List ℕ) Refusal → ℕ
-changed_salt c own opts (Ok seed) = if is_passphrase (Some (changed_format own opts)) then little_endian_value (c.seed_bytes seed salt_place 8) else 0
+changed_salt c own opts (Ok seed) =
+    if is_passphrase (Some (changed_format own opts)) then little_endian_value (c.seed_bytes seed salt_place 8) else 0
 changed_salt c own opts (Err why) = 0
 
 abbrev pub changed_props : Option Props → Options → ℕ → Props
-changed_props own opts salt = record { format = changed_format own opts; place = changed_place own opts; iters = changed_iters own opts; salt = salt }
+changed_props own opts salt =
+    record {
+      format = changed_format own opts;
+      place = changed_place own opts;
+      iters = changed_iters own opts;
+      salt = salt;
+    }
 
 -- ---- refusals
 
 -- no key format for a dataset that isn't a root, or iterations where the new format is no passphrase
 abbrev pub are_bad_changes : Option Props → Options → Bool
-are_bad_changes own opts = is_none own && is_none opts.format || is_some opts.iters && not (is_passphrase (Some (changed_format own opts)))
+are_bad_changes own opts =
+    is_none own && is_none opts.format || is_some opts.iters && not (is_passphrase (Some (changed_format own opts)))
 
 abbrev pub own_props : Plain → Option Row → Option Props
 own_props p row = option_and_then (λ found. at_id found.id p.roots) row
@@ -106,7 +115,8 @@ abbrev pub told_change_of : Ciphers → Plain → Options → Bool → LineKit �
 told_change_of c p opts load_first kit id =
     let own = at_id id p.roots in
     let seed = seed_of kit.seed in
-    told_anew (old_wrong c p id load_first) (told_changed c p id opts load_first) (old_key c p id load_first kit.old_key)
+    told_anew (old_wrong c p id load_first) (told_changed c p id opts load_first)
+    (old_key c p id load_first kit.old_key)
     (key_of c (changed_format own opts) (changed_iters own opts) (changed_salt c own opts seed) kit.new_key) seed
 
 abbrev pub told_change : Ciphers → Plain → Options → Bool → LineKit → Option ℕ → Told

@@ -1,4 +1,5 @@
--- `create`: a dataset, which is a root where the options have a key format, and inherits its parent's key below an encrypted parent.
+-- `create`: a dataset, which is a root where the options have a key format, and inherits its parent's key
+-- below an encrypted parent.
 use Rattle.std.specs.Prelude.{ℕ, Bool, true, false, not, ◌&&◌, ◌||◌, ◌+◌, nat_lt, nat_le, List, [], ◌∷◌, length, slice_get, is_some, is_none, unwrap_or, if◌then◌else◌, Result, Ok, Err}
 use Rattle.std.specs.declared.option.Option.{Option}
 use Rattle.std.specs.declared.option.Option.TheVariants.{Some, None}
@@ -53,7 +54,8 @@ is_passphrase (Some Raw) = false
 is_passphrase (Some Hex) = false
 is_passphrase (Some Passphrase) = true
 
--- Without a key format: a key location, iterations, or a suite where nothing is inherited. With one: iterations where it is no passphrase.
+-- Without a key format: a key location, iterations, or a suite where nothing is inherited. With one:
+-- iterations where it is no passphrase.
 abbrev pub are_bad_options : Plain → List ℕ → Options → Bool
 are_bad_options p name opts =
     if makes_root opts then is_some opts.iters && not (is_passphrase opts.format)
@@ -119,7 +121,8 @@ new_iters opts = if is_passphrase opts.format then unwrap_or opts.iters default_
 
 -- a salt for a passphrase, where a seed was had
 abbrev pub new_salt : Ciphers → Options → Result (List ℕ) Refusal → ℕ
-new_salt c opts (Ok seed) = if is_passphrase opts.format then little_endian_value (c.seed_bytes seed salt_place 8) else 0
+new_salt c opts (Ok seed) =
+    if is_passphrase opts.format then little_endian_value (c.seed_bytes seed salt_place 8) else 0
 new_salt c opts (Err why) = 0
 
 -- the master key that a seed's words make
@@ -138,7 +141,9 @@ seeded_record c suite seed key =
 
 -- the key of the parent's owner
 abbrev pub parent_key : Plain → Option Row → List ℕ
-parent_key p row = unwrap_or (option_and_then (λ root. at_id root p.loaded) (option_and_then (λ parent. owner_of p parent.id) row)) no_key
+parent_key p row =
+    unwrap_or (option_and_then (λ root. at_id root p.loaded)
+    (option_and_then (λ parent. owner_of p parent.id) row)) no_key
 
 -- the key of a new root, or that under which an heir stands
 abbrev pub create_key : Ciphers → Plain → List ℕ → Options → LineKit → Result (List ℕ) Refusal
@@ -160,16 +165,19 @@ told_encrypted c p name opts (Ok key) (Ok seed) = record {
 
 abbrev pub told_create : Ciphers → Plain → List ℕ → Options → LineKit → Told
 told_create c p name opts kit =
-    if makes_encrypted p name opts then told_encrypted c p name opts (create_key c p name opts kit) (seed_of kit.seed) else nothing_told
+    if makes_encrypted p name opts then told_encrypted c p name opts (create_key c p name opts kit)
+    (seed_of kit.seed) else nothing_told
 
 -- ---- effect
 
 abbrev pub new_props : Options → Told → Props
-new_props opts told = record { format = new_format opts; place = unwrap_or opts.place Prompt; iters = new_iters opts; salt = told.salt }
+new_props opts told =
+    record { format = new_format opts; place = unwrap_or opts.place Prompt; iters = new_iters opts; salt = told.salt }
 
 -- a new family has an empty record where none was written for it
 abbrev pub new_stored : ℕ → Options → Told → Stored
-new_stored id opts told = record { wrapped = unwrap_or (at_id id told.wrapped) []; block = unwrap_or opts.block default_record_size }
+new_stored id opts told =
+    record { wrapped = unwrap_or (at_id id told.wrapped) []; block = unwrap_or opts.block default_record_size }
 
 abbrev pub created : Plain → List ℕ → Options → Told → Plain
 created p name opts told =

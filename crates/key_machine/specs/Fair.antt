@@ -1,4 +1,5 @@
--- What is asked of ciphers, and when what is told of a command's material is fair: it could have come from real material.
+-- What is asked of ciphers, and when what is told of a command's material is fair: it could have come from
+-- real material.
 use Rattle.std.specs.Prelude.{◌≡◌, ◌⊎◌, ℕ, ◌+◌, ◌^◌, ◌<◌, List, [], ◌∷◌, length, map, true, is_some, if◌then◌else◌, Ok}
 use Rattle.std.specs.declared.option.Option.{Option}
 use Rattle.std.specs.declared.option.Option.TheVariants.{Some, None}
@@ -30,14 +31,16 @@ pub record IsMaster (m : Master) : Type 0 where
   pub master : length m.master ≡ suite_key_len m.suite
   pub hmac : length m.hmac ≡ 64
 
--- A record that is made opens, under its wrapping key, to its master key, and what a record opens to is one; a seed gives as many bytes
--- as are asked for; and material gives keys of 32 bytes.
+-- A record that is made opens, under its wrapping key, to its master key, and what a record opens to is one;
+-- a seed gives as many bytes as are asked for; and material gives keys of 32 bytes.
 pub record AreSound (c : Ciphers) : Type 0 where
-  pub opened : (m : Master) (key vector : List ℕ) → IsMaster m → length vector ≡ 12 → c.opens (c.record_of m key vector) key ≡ Some m
+  pub opened : (m : Master) (key vector : List ℕ) → IsMaster m → length vector ≡ 12
+      → c.opens (c.record_of m key vector) key ≡ Some m
   pub masters : (stored key : List ℕ) (m : Master) → c.opens stored key ≡ Some m → IsMaster m
   pub words : (seed : List ℕ) (place n : ℕ) → length (c.seed_bytes seed place n) ≡ n
   pub numbers : (seed : List ℕ) (place : ℕ) → little_endian_value (c.seed_bytes seed place 8) < 2 ^ 64
-  pub keys : (format : Format) (material : List ℕ) (iters salt : ℕ) (key : List ℕ) → c.wkey format material iters salt ≡ Ok key → length key ≡ key_len
+  pub keys : (format : Format) (material : List ℕ) (iters salt : ℕ) (key : List ℕ)
+      → c.wkey format material iters salt ≡ Ok key → length key ≡ key_len
 
 -- ---- kits
 
@@ -69,7 +72,8 @@ abbrev pub families_written : Plain → KeyCmd → List ℕ
 families_written p (commands.Create name opts) = if makes_encrypted p name opts then (p.tree.last + 1) ∷ [] else []
 families_written p (commands.Load name check_only place) = []
 families_written p (commands.Unload name) = []
-families_written p (commands.Change name opts load_first) = change_families p opts (target p (commands.Change name opts load_first))
+families_written p (commands.Change name opts load_first) =
+    change_families p opts (target p (commands.Change name opts load_first))
 families_written p (commands.Inherit name load_first) = inherit_families p (target p (commands.Inherit name load_first))
 families_written p (commands.Mount name) = []
 families_written p (commands.Unmount name) = []
@@ -98,7 +102,8 @@ OpensAll c p told (Some root) = All (λ entry. is_some (c.opens entry.1.wrapped 
 
 abbrev pub OpensOwned : Ciphers → Plain → KeyCmd → Told → Type 0
 OpensOwned c p (commands.Create name opts) told = Unit {0}
-OpensOwned c p (commands.Load name check_only place) told = OpensAll c p told (target p (commands.Load name check_only place))
+OpensOwned c p (commands.Load name check_only place) told =
+    OpensAll c p told (target p (commands.Load name check_only place))
 OpensOwned c p (commands.Unload name) told = Unit {0}
 OpensOwned c p (commands.Change name opts load_first) told = Unit {0}
 OpensOwned c p (commands.Inherit name load_first) told = Unit {0}
@@ -109,12 +114,13 @@ OpensOwned c p (commands.Clone from name) told = Unit {0}
 OpensOwned c p (commands.Receive name props wrapped block) told = Unit {0}
 OpensOwned c p (commands.Destroy name snaps) told = Unit {0}
 
--- each of these records opens under the key to the master key that its family has, wherever the key that the family uses is loaded
+-- each of these records opens under the key to the master key that its family has, wherever the key that the
+-- family uses is loaded
 abbrev pub AllKept : Ciphers → Plain → List ℕ → List (ℕ × List ℕ) → Type 0
 AllKept c p key records = All (λ entry. has_key p entry.0 ≡ true → c.opens entry.1 key ≡ mkey c p entry.0) records
 
--- A refused step asks nothing of what is told. Of another, the records are those of the families that it names, and each opens
--- under the key that will own it, and there to the master key of before.
+-- A refused step asks nothing of what is told. Of another, the records are those of the families that it
+-- names, and each opens under the key that will own it, and there to the master key of before.
 pub record IsGenuine (c : Ciphers) (p : Plain) (command : KeyCmd) (told : Told) : Type 0 where
   pub owned : OpensOwned c p command told
   pub families : map (λ entry. entry.0) told.wrapped ≡ families_written p command
@@ -122,4 +128,5 @@ pub record IsGenuine (c : Ciphers) (p : Plain) (command : KeyCmd) (told : Told) 
   pub kept : AllKept c p (key_written p command told) told.wrapped
 
 abbrev pub IsFair : Ciphers → Plain → KeyCmd → Told → Type 0
-IsFair c p command told = ((why : Refusal) × ((key_step p command told).reply ≡ Refused why)) ⊎ IsGenuine c p command told
+IsFair c p command told =
+    ((why : Refusal) × ((key_step p command told).reply ≡ Refused why)) ⊎ IsGenuine c p command told

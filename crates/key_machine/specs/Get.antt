@@ -51,11 +51,13 @@ owner_props p found = option_and_then (λ root. at_id root p.roots) found
 abbrev pub crypt_text : Plain → ℕ → Option ℕ → Prop → List ℕ
 crypt_text p id found props.KeyStatus = status_text (has_key_of p found)
 crypt_text p id found props.Encryption = option_map_or suite_name (suite_of_family p (family p.tree.rows id)) none_text
-crypt_text p id found props.EncryptionRoot = option_map_or (λ row. row.name) (option_and_then (λ root. row_of root p.tree.rows) found) none_text
+crypt_text p id found props.EncryptionRoot =
+    option_map_or (λ row. row.name) (option_and_then (λ root. row_of root p.tree.rows) found) none_text
 crypt_text p id found props.KeyFormat = option_map_or (λ own. format_text own.format) (owner_props p found) none_text
 crypt_text p id found props.KeyLocation = option_map_or (λ own. place_text own.place) (owner_props p found) none_text
 crypt_text p id found props.Pbkdf2Iters = option_map_or (λ own. decimal own.iters) (owner_props p found) none_text
-crypt_text p id found props.RecordSize = option_map_or (λ stored. decimal stored.block) (at_id (family p.tree.rows id) p.wrapped) none_text
+crypt_text p id found props.RecordSize =
+    option_map_or (λ stored. decimal stored.block) (at_id (family p.tree.rows id) p.wrapped) none_text
 
 abbrev pub plain_text : Prop → List ℕ
 plain_text props.Encryption = codes "off"
@@ -68,7 +70,8 @@ plain_text props.RecordSize = none_text
 
 abbrev pub row_text : Plain → Option Row → Prop → List ℕ
 row_text p None prop = none_text
-row_text p (Some row) prop = if is_encrypted_kind row.kind then crypt_text p row.id (owner_of p row.id) prop else plain_text prop
+row_text p (Some row) prop =
+    if is_encrypted_kind row.kind then crypt_text p row.id (owner_of p row.id) prop else plain_text prop
 
 abbrev pub property_text : Plain → ℕ → Prop → List ℕ
 property_text p id prop = row_text p (row_of id p.tree.rows) prop

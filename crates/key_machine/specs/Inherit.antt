@@ -63,7 +63,8 @@ inherit_material p name told =
 -- ---- takings
 
 abbrev pub inherit_wanted : Plain → List ℕ → Bool → Wanted
-inherit_wanted p name load_first = record { old_place = old_place p load_first (row_named name p.tree.rows); new_place = None; seed = true }
+inherit_wanted p name load_first =
+    record { old_place = old_place p load_first (row_named name p.tree.rows); new_place = None; seed = true }
 
 -- ---- what they tell; the key that is inherited isn't told
 
@@ -82,7 +83,8 @@ told_inherited c p id load_first old new seed = record {
 abbrev pub told_inherit : Ciphers → Plain → Bool → LineKit → Option ℕ → Told
 told_inherit c p load_first kit None = nothing_told
 told_inherit c p load_first kit (Some id) =
-    told_anew (old_wrong c p id load_first) (told_inherited c p id load_first) (old_key c p id load_first kit.old_key) (Ok (key_above p id)) (seed_of kit.seed)
+    told_anew (old_wrong c p id load_first) (told_inherited c p id load_first)
+    (old_key c p id load_first kit.old_key) (Ok (key_above p id)) (seed_of kit.seed)
 
 -- the families whose records it writes, and the key under which these will stand
 abbrev pub inherit_families : Plain → Option ℕ → List ℕ

@@ -31,7 +31,8 @@ load_material told = told.fault ∷ option_map (λ dataset. WrongKey dataset) to
 
 -- the dataset's own key location, where it is a root
 abbrev pub own_place : Plain → List ℕ → Option Location
-own_place p name = option_map (λ props. props.place) (option_and_then (λ id. at_id id p.roots) (id_named name p.tree.rows))
+own_place p name =
+    option_map (λ props. props.place) (option_and_then (λ id. at_id id p.roots) (id_named name p.tree.rows))
 
 -- the key from the command's location, else from the dataset's own, else at the prompt
 abbrev pub load_wanted : Plain → List ℕ → Option Location → Wanted
@@ -46,15 +47,18 @@ load_wanted p name place = record {
 -- the first family whose record doesn't open under the key
 abbrev pub first_wrong : Ciphers → List ℕ → List (ℕ × Stored) → Option ℕ
 first_wrong c key [] = None
-first_wrong c key (entry ∷ entries) = if is_some (c.opens entry.1.wrapped key) then first_wrong c key entries else Some entry.0
+first_wrong c key (entry ∷ entries) =
+    if is_some (c.opens entry.1.wrapped key) then first_wrong c key entries else Some entry.0
 
 abbrev pub told_load_with : Ciphers → Plain → ℕ → Result (List ℕ) Refusal → Told
-told_load_with c p root (Ok key) = record { fault = None; wrong = first_wrong c key (owned p root); key = key; salt = 0; wrapped = [] }
+told_load_with c p root (Ok key) =
+    record { fault = None; wrong = first_wrong c key (owned p root); key = key; salt = 0; wrapped = [] }
 told_load_with c p root (Err why) = fault_told why
 
 abbrev pub told_load_of : Ciphers → Plain → LineKit → ℕ → Option Props → Told
 told_load_of c p kit root None = nothing_told
-told_load_of c p kit root (Some props) = told_load_with c p root (key_of c props.format props.iters props.salt kit.new_key)
+told_load_of c p kit root (Some props) =
+    told_load_with c p root (key_of c props.format props.iters props.salt kit.new_key)
 
 abbrev pub told_load : Ciphers → Plain → LineKit → Option ℕ → Told
 told_load c p kit None = nothing_told

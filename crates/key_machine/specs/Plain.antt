@@ -28,8 +28,9 @@ pub record Hold : Type 0 where
   pub slot : ℕ
   pub generation : ℕ
 
--- The tree; the roots; the records by family; the wrapping keys that are loaded, by root; the last generation of each slot; the
--- slot of each mapped dataset; the mounted datasets; and the holds of the riders. Lists by id are in rising order of it.
+-- The tree; the roots; the records by family; the wrapping keys that are loaded, by root; the last generation
+-- of each slot; the slot of each mapped dataset; the mounted datasets; and the holds of the riders. Lists by
+-- id are in rising order of it.
 pub record Plain : Type 0 where
   pub tree : Datasets
   pub roots : List (ℕ × Props)
@@ -42,7 +43,17 @@ pub record Plain : Type 0 where
 
 -- a host that holds nothing
 abbrev pub no_keys : Plain
-no_keys = record { tree = no_datasets; roots = []; wrapped = []; loaded = []; gens = replicate slot_count 0; mapped = []; mounted = []; users = [] }
+no_keys =
+    record {
+      tree = no_datasets;
+      roots = [];
+      wrapped = [];
+      loaded = [];
+      gens = replicate slot_count 0;
+      mapped = [];
+      mounted = [];
+      users = [];
+    }
 
 -- a family's master key: its guid and suite, the suite's key bytes, and the 64 bytes of its HMAC key
 pub record Master : Type 0 where
@@ -51,9 +62,10 @@ pub record Master : Type 0 where
   pub master : List ℕ
   pub hmac : List ℕ
 
--- What the definitions take from outside, since they know no cipher: the master key to which a stored record opens under a wrapping
--- key; the stored record of a master key under a wrapping key and an initialization vector; the wrapping key of material in a format
--- with iterations and salt, or what is wrong with the material; and so many bytes of a seed's words from a place on.
+-- What the definitions take from outside, since they know no cipher: the master key to which a stored record
+-- opens under a wrapping key; the stored record of a master key under a wrapping key and an initialization
+-- vector; the wrapping key of material in a format with iterations and salt, or what is wrong with the
+-- material; and so many bytes of a seed's words from a place on.
 pub record Ciphers : Type 0 where
   pub opens : (stored key : List ℕ) → Option Master
   pub record_of : Master → (key vector : List ℕ) → List ℕ
@@ -98,4 +110,6 @@ owned p root = filter (λ entry. is_same root (owner_of p entry.0)) p.wrapped
 -- the master key of a family, where its owner's key is loaded and opens its record
 abbrev pub mkey : Ciphers → Plain → ℕ → Option Master
 mkey c p family =
-    option_and_then (λ stored. option_and_then (λ root. option_and_then (λ key. c.opens stored.wrapped key) (at_id root p.loaded)) (owner_of p family)) (at_id family p.wrapped)
+    option_and_then (λ stored. option_and_then
+    (λ root. option_and_then (λ key. c.opens stored.wrapped key) (at_id root p.loaded)) (owner_of p family))
+    (at_id family p.wrapped)

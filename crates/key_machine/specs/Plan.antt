@@ -16,7 +16,8 @@ abbrev pub set_id : {X : Type 0} → ℕ → Option X → List (ℕ × X) → Li
 set_id id None entries = without_id id entries
 set_id id (Some value) entries = with_id id value entries
 
--- The root has the plan's properties and its key is loaded, or it is no root and has none; each family of the plan has the plan's record.
+-- The root has the plan's properties and its key is loaded, or it is no root and has none; each family of the
+-- plan has the plan's record.
 abbrev pub planned : Plain → ChangePlan → Plain
 planned p plan = record p {
   roots = set_id plan.root plan.props p.roots;
@@ -38,7 +39,8 @@ IsRekeying (commands.Clone from name) = ⊥
 IsRekeying (commands.Receive name props wrapped block) = ⊥
 IsRekeying (commands.Destroy name snaps) = ⊥
 
--- A plan is of a state where some `change-key` or `change-key -i` is accepted there, under what its kit tells, and makes the planned state.
+-- A plan is of a state where some `change-key` or `change-key -i` is accepted there, under what its kit
+-- tells, and makes the planned state.
 pub record IsPlanned (c : Ciphers) (p : Plain) (plan : ChangePlan) : Type 0 where
   pub command : KeyCmd
   pub kit : LineKit

@@ -42,14 +42,16 @@ fetches_old p id load_first = load_first && not (has_key p id)
 -- the owner's location, from which it is fetched
 abbrev pub old_place : Plain → Bool → Option Row → Option Location
 old_place p load_first None = None
-old_place p load_first (Some row) = if fetches_old p row.id load_first then option_map (λ props. props.place) (present_props p row.id) else None
+old_place p load_first (Some row) =
+    if fetches_old p row.id load_first then option_map (λ props. props.place) (present_props p row.id) else None
 
 abbrev pub fetched_old : Ciphers → Option Props → Fetched → Result (List ℕ) Refusal
 fetched_old c None fetched = Ok no_key
 fetched_old c (Some props) fetched = key_of c props.format props.iters props.salt fetched
 
 abbrev pub old_key : Ciphers → Plain → ℕ → Bool → Fetched → Result (List ℕ) Refusal
-old_key c p id load_first fetched = if fetches_old p id load_first then fetched_old c (present_props p id) fetched else Ok (present_key p id)
+old_key c p id load_first fetched =
+    if fetches_old p id load_first then fetched_old c (present_props p id) fetched else Ok (present_key p id)
 
 -- the first family of the present owner whose record doesn't open under a key that was fetched
 abbrev pub first_wrong_of : Ciphers → Plain → List ℕ → Option ℕ → Option ℕ
@@ -69,14 +71,18 @@ sealed_anew c stored key vector (Some m) = c.record_of m key vector
 -- the records of these families anew, that of number i in the line with the seed's vector i
 abbrev pub rewrapped : Ciphers → (seed old new : List ℕ) → ℕ → List (ℕ × Stored) → List (ℕ × List ℕ)
 rewrapped c seed old new i [] = []
-rewrapped c seed old new i (entry ∷ entries) =
-    (entry.0, sealed_anew c entry.1.wrapped new (c.seed_bytes seed (vector_place i) 12) (c.opens entry.1.wrapped old)) ∷ rewrapped c seed old new (i + 1) entries
+rewrapped c seed old new i (entry ∷ entries) = (
+  entry.0,
+  sealed_anew c entry.1.wrapped new (c.seed_bytes seed (vector_place i) 12)
+      (c.opens entry.1.wrapped old),
+) ∷ rewrapped c seed old new (i + 1) entries
 
 -- ---- what they tell
 
 -- By the old key, the new one and the seed: the first fault, and the first record that doesn't open,
 -- which is told where the old key has no fault; where nothing fails, what the keys and the seed make.
-abbrev pub told_anew : (List ℕ → Option ℕ) → ((old new seed : List ℕ) → Told) → (old new seed : Result (List ℕ) Refusal) → Told
+abbrev pub told_anew : (List ℕ → Option ℕ) → ((old new seed : List ℕ) → Told)
+    → (old new seed : Result (List ℕ) Refusal) → Told
 told_anew wrong tells (Err why) new seed = fault_told why
 told_anew wrong tells (Ok old) (Err why) seed = record (fault_told why) { wrong = wrong old }
 told_anew wrong tells (Ok old) (Ok new) (Err why) = record (fault_told why) { wrong = wrong old }
@@ -90,4 +96,5 @@ with_record records entry = record entry.1 { wrapped = unwrap_or (at_id entry.0 
 
 -- the stored records, with those that were written for the families that a root owns
 abbrev pub with_records : (ℕ → Option ℕ) → ℕ → List (ℕ × List ℕ) → List (ℕ × Stored) → List (ℕ × Stored)
-with_records owner root records stored = map (λ entry. (entry.0, if is_same root (owner entry.0) then with_record records entry else entry.1)) stored
+with_records owner root records stored =
+    map (λ entry. (entry.0, if is_same root (owner entry.0) then with_record records entry else entry.1)) stored

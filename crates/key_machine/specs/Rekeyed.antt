@@ -13,20 +13,24 @@ use Rattle.key_machine.specs.Rekey.{fetches_old, old_key}
 -- The dataset has these properties as a root, or is none, and has this key loaded, or none. Of the
 -- rest of the state only records differ: those of the families that this owner owns are the told
 -- ones, where there are such, and keep their record sizes.
-pub record IsRekeyed (p after : Plain) (id : ℕ) (props : Option Props) (key : Option (List ℕ)) (owner : ℕ → Option ℕ) (records : List (ℕ × List ℕ)) : Type 0 where
+pub record IsRekeyed (p after : Plain) (id : ℕ) (props : Option Props) (key : Option (List ℕ))
+    (owner : ℕ → Option ℕ) (records : List (ℕ × List ℕ)) : Type 0 where
   pub root : at_id id after.roots ≡ props
   pub roots : (other : ℕ) → other ≢ id → at_id other after.roots ≡ at_id other p.roots
   pub loaded : at_id id after.loaded ≡ key
   pub loaded_others : (other : ℕ) → other ≢ id → at_id other after.loaded ≡ at_id other p.loaded
-  pub written : (of : ℕ) (stored : Stored) (wrapped : List ℕ) → owner of ≡ Some id → at_id of p.wrapped ≡ Some stored → at_id of records ≡ Some wrapped
+  pub written : (of : ℕ) (stored : Stored) (wrapped : List ℕ) → owner of ≡ Some id
+      → at_id of p.wrapped ≡ Some stored → at_id of records ≡ Some wrapped
       → at_id of after.wrapped ≡ Some (record { wrapped = wrapped; block = stored.block })
   pub unwritten : (of : ℕ) → (owner of ≡ Some id → ⊥) → at_id of after.wrapped ≡ at_id of p.wrapped
-  pub sizes : (of : ℕ) → option_map (λ stored. stored.block) (at_id of after.wrapped) ≡ option_map (λ stored. stored.block) (at_id of p.wrapped)
+  pub sizes : (of : ℕ) → option_map (λ stored. stored.block) (at_id of after.wrapped)
+      ≡ option_map (λ stored. stored.block) (at_id of p.wrapped)
   pub rest : after ≡ record p { roots = after.roots; wrapped = after.wrapped; loaded = after.loaded }
 
 -- The present owner's key was fetched. Of the records of the owner's families, in order of id, those
 -- before this family's open under it, and this one doesn't.
-pub record IsFirstWrong (c : Ciphers) (p : Plain) (found : Option ℕ) (load_first : Bool) (kit : LineKit) (family : ℕ) : Type 0 where
+pub record IsFirstWrong (c : Ciphers) (p : Plain) (found : Option ℕ) (load_first : Bool) (kit : LineKit)
+    (family : ℕ) : Type 0 where
   pub id : ℕ
   pub root : ℕ
   pub key : List ℕ

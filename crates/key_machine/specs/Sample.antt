@@ -1,5 +1,6 @@
--- A host for worked values: `tank` (1), a root, with `tank/a` (2) and `tank/b` (3), which inherit its key, `copy` (4), a clone of
--- `tank/a`, and `lake` (5), which is plain. `tank/a` is mounted on slot 0, and `copy` is mapped on slot 1, where rider 7 holds it twice; slot 2 was used before.
+-- A host for worked values: `tank` (1), a root, with `tank/a` (2) and `tank/b` (3), which inherit its key,
+-- `copy` (4), a clone of `tank/a`, and `lake` (5), which is plain. `tank/a` is mounted on slot 0, and `copy`
+-- is mapped on slot 1, where rider 7 holds it twice; slot 2 was used before.
 use Rattle.std.specs.declared.option.Option.TheVariants.{Some}
 use Rattle.std.specs.Prelude.{ℕ, List, Result, Ok, [], ◌∷◌, ◌++◌, replicate, codes}
 use Rattle.dataset_tree.specs.declared.kinds.Kind.TheVariants.{Plain as PlainKind, Crypt}
@@ -29,7 +30,8 @@ sample = record {
     last = 5;
   };
   roots = (1, record { format = Raw; place = File (codes "/t"); iters = 0; salt = 0 }) ∷ [];
-  wrapped = (1, record { wrapped = 11 ∷ []; block = 512 }) ∷ (2, record { wrapped = 22 ∷ []; block = 512 }) ∷ (3, record { wrapped = 33 ∷ []; block = 512 }) ∷ [];
+  wrapped = (1, record { wrapped = 11 ∷ []; block = 512 }) ∷ (2, record { wrapped = 22 ∷ []; block = 512 })
+      ∷ (3, record { wrapped = 33 ∷ []; block = 512 }) ∷ [];
   loaded = (1, codes "the key of tank") ∷ [];
   gens = (1 ∷ 1 ∷ 5 ∷ []) ++ replicate 253 0;
   mapped = (2, 0) ∷ (4, 1) ∷ [];
@@ -81,7 +83,8 @@ abbrev pub seed_kit : List ℕ → LineKit
 seed_kit seed = record { old_key = fetches.NotAsked; new_key = fetches.NotAsked; seed = seeds.Got seed }
 
 abbrev pub new_key_kit : List ℕ → LineKit
-new_key_kit seed = record { old_key = fetches.Got (codes "old"); new_key = fetches.Got (codes "new"); seed = seeds.Got seed }
+new_key_kit seed =
+    record { old_key = fetches.Got (codes "old"); new_key = fetches.Got (codes "new"); seed = seeds.Got seed }
 
 abbrev pub faulty_kit : (old new : Fetched) → LineKit
 faulty_kit old new = record { old_key = old; new_key = new; seed = seeds.Fault }

@@ -15,7 +15,8 @@ use Rattle.key_machine.specs.Users.{generation_of}
 abbrev pub IsEncrypted : Plain → ℕ → Type 0
 IsEncrypted p id = (row : Row) × (row_of id p.tree.rows ≡ Some row) × (row.kind ≡ Crypt)
 
--- The tree; owners, roots and origins are encrypted, no clone is a root; and each encrypted dataset's family has one record.
+-- The tree; owners, roots and origins are encrypted, no clone is a root; and each encrypted dataset's family
+-- has one record.
 pub record SoundTree (p : Plain) : Type 0 where
   pub tree : IsTree p.tree
   pub owners : (id : ℕ) → IsEncrypted p id → is_some (owner_of p id) ≡ true
@@ -24,7 +25,8 @@ pub record SoundTree (p : Plain) : Type 0 where
   pub no_clone : (id : ℕ) (row : Row) → row_of id p.tree.rows ≡ Some row → is_root p id ≡ true → row.origin ≡ 0
   pub origins : All (λ row. row.origin ≢ 0 → (row.kind ≡ Crypt) × IsEncrypted p row.origin) p.tree.rows
   pub records : IsRisingById p.wrapped
-  pub families : (id : ℕ) → (is_some (at_id id p.wrapped) ≡ true) ↔ ((dataset : ℕ) × IsEncrypted p dataset × (family p.tree.rows dataset ≡ id))
+  pub families : (id : ℕ) → (is_some (at_id id p.wrapped) ≡ true)
+      ↔ ((dataset : ℕ) × IsEncrypted p dataset × (family p.tree.rows dataset ≡ id))
 
 -- Mapped datasets are encrypted and have their key, each has one slot, and mounted datasets are mapped.
 pub record SoundMappings (p : Plain) : Type 0 where
@@ -43,7 +45,8 @@ OpensAt c p key id = IfSome (at_id id p.wrapped) (λ stored. is_some (c.opens st
 pub record SoundKeys (c : Ciphers) (p : Plain) : Type 0 where
   pub loaded : IsRisingById p.loaded
   pub roots : All (λ entry. is_root p entry.0 ≡ true) p.loaded
-  pub opened : (root id : ℕ) (key : List ℕ) → at_id root p.loaded ≡ Some key → owner_of p id ≡ Some root → OpensAt c p key id
+  pub opened : (root id : ℕ) (key : List ℕ) → at_id root p.loaded ≡ Some key → owner_of p id ≡ Some root
+      → OpensAt c p key id
 
 -- Each rider holds one mapping, of the present generation, at most 65535 times; riders are 1 to 32.
 pub record SoundUsers (p : Plain) : Type 0 where

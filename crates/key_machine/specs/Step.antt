@@ -1,5 +1,6 @@
--- The step of a key command, by its command: its refusals, what it takes, what that tells, and its effect. A refused command changes
--- nothing, but that an unload which is busy has closed the idle mappings before the busy one.
+-- The step of a key command, by its command: its refusals, what it takes, what that tells, and its effect. A
+-- refused command changes nothing, but that an unload which is busy has closed the idle mappings before the
+-- busy one.
 use Rattle.std.specs.Prelude.{◌≡◌, ℕ, List, []}
 use Rattle.std.specs.declared.option.Option.{Option}
 use Rattle.std.specs.declared.option.Option.TheVariants.{Some, None}
@@ -107,7 +108,8 @@ carried_out p (commands.Clone from name) told found at = refused p not_built
 carried_out p (commands.Receive name props wrapped block) told found at = refused p not_built
 carried_out p (commands.Destroy name snaps) told found at = refused p not_built
 
--- what the closes of a command find by the plain state's own users: those of a root's mappings, where its key is unloaded
+-- what the closes of a command find by the plain state's own users: those of a root's mappings, where its key
+-- is unloaded
 abbrev pub in_use : Plain → KeyCmd → Option InUse
 in_use p (commands.Create name opts) = None
 in_use p (commands.Load name check_only place) = None
@@ -124,7 +126,8 @@ in_use p (commands.Destroy name snaps) = None
 -- the step of a command whose closes found this mapping in use, or none
 abbrev pub key_step_found : Option InUse → Plain → KeyCmd → Told → Stepped
 key_step_found found p command told =
-    unless_refused p (refusal_of p command) (unless_refused p (material_refusal p command told) (carried_out p command told found (target p command)))
+    unless_refused p (refusal_of p command)
+    (unless_refused p (material_refusal p command told) (carried_out p command told found (target p command)))
 
 -- the step of a plain state
 abbrev pub key_step : Plain → KeyCmd → Told → Stepped

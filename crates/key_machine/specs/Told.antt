@@ -1,4 +1,5 @@
--- What the material of a command tells: its first fault, the record that doesn't open, the key, the salt, and the records to write.
+-- What the material of a command tells: its first fault, the record that doesn't open, the key, the salt, and
+-- the records to write.
 use Rattle.std.specs.Prelude.{ℕ, Bool, false, List, [], replicate, Result, Ok, Err}
 use Rattle.std.specs.declared.option.Option.{Option}
 use Rattle.std.specs.declared.option.Option.TheVariants.{Some, None}
@@ -26,8 +27,9 @@ nothing_wanted = record { old_place = None; new_place = None; seed = false }
 
 -- ---- what that tells
 
--- `fault` is the first fault among those of old key, new key and seed; `wrong` the first dataset whose record doesn't open; `key`
--- the new or loaded wrapping key, of 32 bytes; `salt` the PBKDF2 salt of new properties; `wrapped` the records written, by family.
+-- `fault` is the first fault among those of old key, new key and seed; `wrong` the first dataset whose record
+-- doesn't open; `key` the new or loaded wrapping key, of 32 bytes; `salt` the PBKDF2 salt of new properties;
+-- `wrapped` the records written, by family.
 pub record Told : Type 0 where
   pub fault : Option Refusal
   pub wrong : Option ℕ

@@ -34,7 +34,10 @@ is_owned p root mapping = is_same root (owner_of p mapping.0)
 -- what the closes of a root's mappings, in order of id, find by the plain state's own users: the first that is in use
 abbrev pub first_in_use : Plain → ℕ → Option InUse
 first_in_use p root =
-    option_map (λ mapping. record { dataset = mapping.0; count = users_of p mapping }) (find (λ mapping. is_owned p root mapping && is_used p mapping) p.mapped)
+    option_map (λ mapping. record {
+      dataset = mapping.0;
+      count = users_of p mapping;
+    }) (find (λ mapping. is_owned p root mapping && is_used p mapping) p.mapped)
 
 -- the mappings without those of a root, or without those of them whose datasets are below one
 abbrev pub closed : Plain → ℕ → List (ℕ × ℕ)
@@ -47,8 +50,10 @@ closed_below p root dataset = filter (λ mapping. not (is_owned p root mapping &
 
 -- What the closes found decides: the first mapping in use stops them, and is named with the count that was found.
 abbrev pub unloaded : Plain → ℕ → Option InUse → Stepped
-unloaded p root None = record { state = record p { mapped = closed p root; loaded = without_id root p.loaded }; reply = Done }
-unloaded p root (Some busy) = refused (record p { mapped = closed_below p root busy.dataset }) (Busy busy.dataset busy.count)
+unloaded p root None =
+    record { state = record p { mapped = closed p root; loaded = without_id root p.loaded }; reply = Done }
+unloaded p root (Some busy) =
+    refused (record p { mapped = closed_below p root busy.dataset }) (Busy busy.dataset busy.count)
 
 abbrev pub unload_done : Plain → Option InUse → Option ℕ → Stepped
 unload_done p found None = refused p NoSuch

@@ -16,7 +16,9 @@ is_mounted p id = list_any (λ mounted. mounted == id) p.mounted
 
 -- the live users of a dataset's mapping: its mount, and the holds on its slot and generation
 abbrev pub users_of : Plain → ℕ × ℕ → ℕ
-users_of p mapping = (if is_mounted p mapping.0 then 1 else 0) + count_by (λ hold. (hold.slot == mapping.1) && (hold.generation == generation_of p mapping.1)) p.users
+users_of p mapping =
+    (if is_mounted p mapping.0 then 1 else 0) + count_by (λ hold. (hold.slot == mapping.1)
+    && (hold.generation == generation_of p mapping.1)) p.users
 
 abbrev pub is_used : Plain → ℕ × ℕ → Bool
 is_used p mapping = not (users_of p mapping == 0)
@@ -32,7 +34,8 @@ wkey_users p root = count_by (λ entry. is_same root (owner_of p entry.0) && not
 -- The word of a slot: the count in bits 0 to 31, open in bit 32, mounted in bit 33, the generation from bit 34 on.
 abbrev pub word_of : Plain → ℕ → Option (ℕ × ℕ) → ℕ
 word_of p slot None = generation_of p slot * 2 ^ 34
-word_of p slot (Some mapping) = users_of p mapping + 2 ^ 32 + (if is_mounted p mapping.0 then 2 ^ 33 else 0) + generation_of p slot * 2 ^ 34
+word_of p slot (Some mapping) =
+    users_of p mapping + 2 ^ 32 + (if is_mounted p mapping.0 then 2 ^ 33 else 0) + generation_of p slot * 2 ^ 34
 
 -- 0 for a slot past the last, whatever is mapped
 abbrev pub word : Plain → ℕ → ℕ
@@ -43,7 +46,8 @@ word p slot = if nat_lt slot slot_count then word_of p slot (find (λ mapping. m
 -- An entry goes before the first one of a greater number, and so behind those of its own number.
 abbrev pub with_entry : {X : Type 0} → (number : X → ℕ) → X → List X → List X
 with_entry number entry [] = entry ∷ []
-with_entry number entry (first ∷ later) = if nat_lt (number entry) (number first) then entry ∷ first ∷ later else first ∷ with_entry number entry later
+with_entry number entry (first ∷ later) =
+    if nat_lt (number entry) (number first) then entry ∷ first ∷ later else first ∷ with_entry number entry later
 
 -- One rider may hold a mapping several times.
 abbrev pub with_hold : Hold → List Hold → List Hold

@@ -1,8 +1,9 @@
 //! The keystore as a pure machine: its plain state, when a state is sound, and what each command does to it.
 //!
-//! The definitions stand in `specs/`, and no code runs here. They know no cipher: how a record opens, how one is made, how material
-//! gives a key, and the words of a seed are their arguments (`Ciphers`). The functions below are laws of the definitions. `KeyView`
-//! and `ChangePlan` are what plans of new wrapping keys read and give.
+//! The definitions stand in `specs/`, and no code runs here. They know no cipher: how a record opens, how one
+//! is made, how material gives a key, and the words of a seed are their arguments (`Ciphers`). The functions
+//! below are laws of the definitions. `KeyView` and `ChangePlan` are what plans of new wrapping keys read and
+//! give.
 #![tactic(auto)]
 
 mod change_laws;

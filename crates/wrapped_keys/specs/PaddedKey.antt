@@ -16,7 +16,12 @@ pub record IsPaddedKey (a : Inside) : Type 0 where
 
 abbrev pub padded_key : MasterValue → Inside
 padded_key m =
-    record { guid = m.guid; suite = m.suite; master = m.master ++ replicate (32 - suite_key_len m.suite) 0; hmac = m.hmac }
+    record {
+      guid = m.guid;
+      suite = m.suite;
+      master = m.master ++ replicate (32 - suite_key_len m.suite) 0;
+      hmac = m.hmac;
+    }
 
 -- the array is known from the bytes that count
 pub padded_key-value : (a : Inside) → IsPaddedKey a → padded_key (key_value a) ≡ a
@@ -24,4 +29,9 @@ padded_key-value a h =
     let key_len : ℕ = suite_key_len a.suite in
     let whole : take key_len a.master ++ replicate (32 - key_len) 0 ≡ a.master =
     ap (λ (rest : List ℕ). take key_len a.master ++ rest) (sym h.zeros) ∙ take-append-drop key_len a.master in
-    ap (λ (master : List ℕ). let inside : Inside = record { guid = a.guid; suite = a.suite; master = master; hmac = a.hmac } in inside) whole
+    ap (λ (master : List ℕ). let inside : Inside = record {
+      guid = a.guid;
+      suite = a.suite;
+      master = master;
+      hmac = a.hmac;
+    } in inside) whole

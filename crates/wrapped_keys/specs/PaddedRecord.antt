@@ -7,7 +7,14 @@ use Rattle.wrapped_keys.specs.declared.key_record.KeyRecord.TheInside.{Inside}
 
 abbrev pub record_value : Inside → RecordValue
 record_value a =
-    record { guid = a.guid; suite = a.suite; version = a.version; iv = a.iv; mac = a.mac; sealed = take (sealed_len a.suite) a.sealed }
+    record {
+      guid = a.guid;
+      suite = a.suite;
+      version = a.version;
+      iv = a.iv;
+      mac = a.mac;
+      sealed = take (sealed_len a.suite) a.sealed;
+    }
 
 -- the version is that of the records that are written, and the array has zeros behind the sealed text
 pub record IsPaddedRecord (a : Inside) : Type 0 where
@@ -16,7 +23,14 @@ pub record IsPaddedRecord (a : Inside) : Type 0 where
 
 abbrev pub padded_record : RecordValue → Inside
 padded_record r =
-    record { guid = r.guid; suite = r.suite; version = r.version; iv = r.iv; mac = r.mac; sealed = r.sealed ++ replicate (96 - sealed_len r.suite) 0 }
+    record {
+      guid = r.guid;
+      suite = r.suite;
+      version = r.version;
+      iv = r.iv;
+      mac = r.mac;
+      sealed = r.sealed ++ replicate (96 - sealed_len r.suite) 0;
+    }
 
 -- the array is known from the bytes that count
 pub padded_record-value : (a : Inside) → IsPaddedRecord a → padded_record (record_value a) ≡ a
@@ -24,4 +38,11 @@ padded_record-value a h =
     let len : ℕ = sealed_len a.suite in
     let whole : take len a.sealed ++ replicate (96 - len) 0 ≡ a.sealed =
     ap (λ (rest : List ℕ). take len a.sealed ++ rest) (sym h.zeros) ∙ take-append-drop len a.sealed in
-    ap (λ (sealed : List ℕ). let inside : Inside = record { guid = a.guid; suite = a.suite; version = a.version; iv = a.iv; mac = a.mac; sealed = sealed } in inside) whole
+    ap (λ (sealed : List ℕ). let inside : Inside = record {
+      guid = a.guid;
+      suite = a.suite;
+      version = a.version;
+      iv = a.iv;
+      mac = a.mac;
+      sealed = sealed;
+    } in inside) whole

@@ -1,4 +1,5 @@
--- The bytes in which a key record is stored: guid 8, suite 1, version 1, initialization vector 12, MAC 16, and the sealed text.
+-- The bytes in which a key record is stored: guid 8, suite 1, version 1, initialization vector 12, MAC 16,
+-- and the sealed text.
 use Rattle.std.specs.Prelude.{ℕ, ◌+◌, Bool, ◌&&◌, ◌==◌, if◌then◌else◌, List, [], ◌∷◌, ◌++◌, length, take, drop, slice_get, slice_index, Option, Some, None}
 use Rattle.std.specs.Option.{option_and_then}
 use Rattle.dataset_tree.specs.declared.kinds.Suite.{Suite}

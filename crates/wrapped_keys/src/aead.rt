@@ -6,8 +6,8 @@ ghost use Rattle.wrapped_keys.specs.Aead.{aead_seal, aead_open};
 use dataset_tree::Suite;
 use gcm_seal::{BadTag, MAX_TEXT_LEN, seal, unseal};
 
-/// The most bytes of additional data: those whose length CCM writes in two bytes (SP 800-38C, A.2.2), so that every mode has a
-/// place for them.
+/// The most bytes of additional data: those whose length CCM writes in two bytes (SP 800-38C, A.2.2), so that
+/// every mode has a place for them.
 pub const MAX_AAD_LEN: usize = 65279;
 
 const _: () = prove!(MAX_AAD_LEN + 1 == (1 << 16) - (1 << 8));

@@ -1,4 +1,5 @@
-//! Master keys of encrypted datasets, and the key records in which they are stored, sealed under a wrapping key. No call allocates.
+//! Master keys of encrypted datasets, and the key records in which they are stored, sealed under a wrapping
+//! key. No call allocates.
 #![tactic(auto)]
 
 mod aead;
