@@ -88,7 +88,8 @@ name_of (refusals.KeyDiffers _ _) = codes "KeyDiffers"
 name_of refusals.BadOptions = codes "BadOptions"
 name_of (refusals.BadDirectory _) = codes "BadDirectory"
 
--- A call gives this outcome, want of memory apart, which says nothing: its refusal is the outcome's, and only where the outcome has one.
+-- A call gives this outcome, want of memory apart, which says nothing: its refusal is the outcome's, and only
+-- where the outcome has one.
 abbrev pub Gives : {T : Type 0} → Result T Stop → Result T Refusal → Type 0
 Gives (Ok x) outcome = outcome ≡ Ok x
 Gives (Err (stops.Refused why)) outcome = outcome ≡ Err why

@@ -26,12 +26,16 @@ ends_in_component (b ∷ c ∷ bs) = ends_in_component (c ∷ bs)
 
 -- A byte may stand behind those before it: at most 255 in all, at most 32 components, none of them empty.
 abbrev pub may_follow : List ℕ → ℕ → Bool
-may_follow before b = nat_lt (length before) 255 && (is_name_byte b || (is_slash b && (ends_in_component before && nat_lt (count_by is_slash before) 31)))
+may_follow before b =
+    nat_lt (length before) 255 && (is_name_byte b
+    || (is_slash b && (ends_in_component before && nat_lt (count_by is_slash before) 31)))
 
--- the offset of the first byte that can't stand behind those before it; where the text ends too early, the text's length
+-- the offset of the first byte that can't stand behind those before it; where the text ends too early, the
+-- text's length
 abbrev pub name_fault_after : List ℕ → List ℕ → Option ℕ
 name_fault_after before [] = if ends_in_component before then None else Some (length before)
-name_fault_after before (b ∷ bs) = if may_follow before b then name_fault_after (before ++ b ∷ []) bs else Some (length before)
+name_fault_after before (b ∷ bs) =
+    if may_follow before b then name_fault_after (before ++ b ∷ []) bs else Some (length before)
 
 -- where a text isn't the name of a dataset: nowhere for a name
 abbrev pub name_fault : List ℕ → Option ℕ

@@ -7,7 +7,8 @@ use lib.Chars.{codes}
 use Rattle.dataset_tree.specs.declared.refusal.Refusal.{Refusal}
 use Rattle.dataset_tree.specs.SetName.{is_name_byte, named_unless}
 
--- the offset of the first byte that can't stand there, given how many bytes from the front on may; of an empty text, its length
+-- the offset of the first byte that can't stand there, given how many bytes from the front on may; of an
+-- empty text, its length
 abbrev pub short_fault_at : List ℕ → ℕ → Option ℕ
 short_fault_at text good = if nat_lt 0 good && (good == length text) then None else Some good
 

@@ -34,7 +34,8 @@ is_parent id rows = list_any (λ row. row.parent == id) rows
 abbrev pub is_needed : ℕ → List Row → Bool
 is_needed id rows = list_any (λ row. row.parent == id || row.origin == id) rows
 
--- the id of the dataset that a new one of this name stands below: 0 for a name of one component, none where it isn't there
+-- the id of the dataset that a new one of this name stands below: 0 for a name of one component, none where
+-- it isn't there
 abbrev pub parent_in : List Row → Option (List ℕ) → Option ℕ
 parent_in rows None = Some 0
 parent_in rows (Some name) = id_named name rows
@@ -42,7 +43,9 @@ parent_in rows (Some name) = id_named name rows
 -- The id of a new dataset, or the first reason against it: a tree has at most 256 datasets, and ids end at 2 ^ 32 - 1.
 abbrev pub id_below : Datasets → Option ℕ → Result ℕ Refusal
 id_below t None = Err NoParent
-id_below t (Some parent) = if nat_lt (length t.rows) 256 then (if nat_lt t.last 4294967295 then Ok (t.last + 1) else Err (Full 4294967295)) else Err (Full 256)
+id_below t (Some parent) =
+    if nat_lt (length t.rows) 256 then (if nat_lt t.last 4294967295 then Ok (t.last + 1)
+    else Err (Full 4294967295)) else Err (Full 256)
 
 abbrev pub new_id : Datasets → List ℕ → Result ℕ Refusal
 new_id t name = if is_some (row_named name t.rows) then Err Exists else id_below t (parent_in t.rows (parent_name name))
@@ -50,7 +53,13 @@ new_id t name = if is_some (row_named name t.rows) then Err Exists else id_below
 -- the tree with a new dataset, whose id is one more than the last ever given
 abbrev pub with_row : Datasets → List ℕ → Kind → ℕ → Datasets
 with_row t name kind origin = record {
-  rows = t.rows ++ record { id = t.last + 1; parent = unwrap_or (parent_in t.rows (parent_name name)) 0; name = name; kind = kind; origin = origin } ∷ [];
+  rows = t.rows ++ record {
+    id = t.last + 1;
+    parent = unwrap_or (parent_in t.rows (parent_name name)) 0;
+    name = name;
+    kind = kind;
+    origin = origin;
+  } ∷ [];
   last = t.last + 1;
 }
 
@@ -65,8 +74,9 @@ removal t id = if is_needed id t.rows then Err HasChildren else Ok tt
 abbrev pub no_datasets : Datasets
 no_datasets = record { rows = []; last = 0 }
 
--- Ids rise and none is above the last ever given. An id is greater than its origin's. Names differ. A name of one component has parent 0; the
--- parent of another row is the row whose name is its own without the last component.
+-- Ids rise and none is above the last ever given. An id is greater than its origin's. Names differ. A name of
+-- one component has parent 0; the parent of another row is the row whose name is its own without the last
+-- component.
 pub record IsTree (t : Datasets) : Type 0 where
   pub rising : AllPairs (λ earlier later. earlier.id < later.id) t.rows
   pub given : All (λ row. row.id ≤ t.last) t.rows

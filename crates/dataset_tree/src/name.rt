@@ -130,6 +130,7 @@ fn parent_of(name: &[u8]) -> Option<&[u8]>
 /// The name of a parent is what stands before the last slash, and a name without a slash has none: a law, which does
 /// nothing.
 pub fn parents_stand_before_the_last_slash()
-    ensures below { (front last : List ℕ) → list_any is_slash last ≡ false → parent_name (front ++ slash ∷ last) ≡ Some front }
+    ensures below { (front last : List ℕ) → list_any is_slash last ≡ false
+        → parent_name (front ++ slash ∷ last) ≡ Some front }
     ensures top { (name : List ℕ) → list_any is_slash name ≡ false → parent_name name ≡ None }
 {}
