@@ -10,7 +10,8 @@ fn found_by_a_close<K: SlotKeeper>(keeper: &mut K, board: &K::Board, slot: u32) 
     requires there { slot < length (K.told keeper.old).slots }
     requires is_open { (slot_at (K.told keeper.old) slot).is_open ≡ true }
     requires is_mounted { (slot_at (K.told keeper.old) slot).is_mounted ≡ true }
-    ensures { 1 ≤ result }
+    ensures used { 1 ≤ result }
+    ensures kept { (K.told keeper.new).slots ≡ (K.told keeper.old).slots }
 {
     match keeper.close_slot(board, slot) {
         Err(found) => found.count(),
