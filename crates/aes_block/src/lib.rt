@@ -38,6 +38,30 @@ pub struct Aes<const NK: usize> {
     tower_words: [u8; SCHEDULE_LEN],
 }
 
+/// The value of an expression in which `$cipher` is `$key` made ready: `$key` is a slice of 16, 24
+/// or 32 bytes, and the expression stands once for each of these lengths.
+///
+///     let encrypted = with_aes!(key, cipher => encrypted(&cipher, block));
+#[macro_export]
+macro_rules! with_aes {
+    ($key:expr, $cipher:ident => $value:expr) => {
+        match $key.len() {
+            16 => {
+                let $cipher = $crate::Aes::<4>::expand($key);
+                $value
+            }
+            24 => {
+                let $cipher = $crate::Aes::<6>::expand($key);
+                $value
+            }
+            _ => {
+                let $cipher = $crate::Aes::<8>::expand($key);
+                $value
+            }
+        }
+    };
+}
+
 impl<const NK: usize> Model for Aes<NK> {
     ghost use Rattle.std.specs.Prelude.{◌≡◌, ℕ, ◌+◌, ◌*◌, ◌<◌, List, slice_index, take};
     ghost use Rattle.aes_block.specs.Field.{◌⊕◌};
