@@ -7,7 +7,9 @@ ghost use Rattle.aes_block.specs.Cipher.{IsKeySize, aes};
 ghost use Rattle.aes_block.specs.Lanes.{HasLanes, tower};
 
 use crate::field::xtimes;
-use crate::lanes::{CONSTANT, last_round, round, round_words, side_by_side, sum, tower, towers};
+use crate::lanes::{
+    CONSTANT, keyed_rounds, last_round, round_words, side_by_side, sum, tower, towers,
+};
 use crate::schedule::{next_word, put_word};
 use crate::state::{add_round_key, mix_columns, shift_rows, sub_bytes};
 use crate::tables::{counted_round, counted_sub_bytes};
@@ -142,12 +144,9 @@ impl<const NK: usize> Aes<NK> {
             → HasLanes pair (λ i. slice_index (s (i / 16)) (i % 16))
             → HasLanes result (λ i. slice_index (aes self.now (s (i / 16))) (i % 16)) }
     {
-        let mut state = towers(sum(pair, round_words(&self.words, 0)));
-        let rounds = NK + EXTRA_ROUNDS;
-        'rounds: for number in 1..rounds {
-            state = round(state, round_words(&self.tower_words, number));
-        }
-        last_round(state, round_words(&self.words, rounds))
+        let start = towers(sum(pair, round_words(&self.words, 0)));
+        let before_last = keyed_rounds::<NK>(start, &self.tower_words);
+        last_round(before_last, round_words(&self.words, NK + EXTRA_ROUNDS))
     }
 
     /// Does the same as `encrypt_block` by tables, and adds the number of its look-ups to `looks`:

@@ -1,8 +1,7 @@
 -- Blocks of a string.
-use Rattle.std.proofs.Common.{◌≡◌, ℕ, zero, suc, ◌+◌, ◌-◌, ◌*◌, ◌<◌, ◌≤◌, min, List, [], ◌∷◌, ◌++◌, length, take, drop, get_or, set, refl, sym, ap, ◌∙◌, arith, add-one, inl, inr, bit_xor, length-append, length-drop, length-take}
-use Rattle.std.proofs.lemmas.List.{take-append-le, drop-append-le, drop-drop, drop_at, drop_more, get_or_at, set_at, append_assoc, length-take-le, take_min, take-take, take-append-drop, drop-take, drop_all, take_all}
+use Rattle.std.proofs.Common.{◌≡◌, ℕ, ◌+◌, ◌-◌, ◌*◌, ◌<◌, ◌≤◌, min, List, [], ◌++◌, length, take, drop, refl, sym, ap, ◌∙◌, arith, inl, inr, length-append, length-drop, length-take}
+use Rattle.std.proofs.lemmas.List.{take-append-le, drop-append-le, drop-drop, drop_at, length-take-le, take-take, take-append-drop, drop-take, drop_all, take_all}
 use Rattle.std.proofs.lemmas.Bool.{cases_lt}
-use Rattle.std.specs.Int.Bits.{xor_assoc, xor_self, xor_zero_r}
 use Rattle.byte_blocks.proofs.Xor.{xor_bytes-append, xor_bytes-take}
 use Rattle.byte_blocks.specs.Blocks.{block_at, xor_bytes}
 

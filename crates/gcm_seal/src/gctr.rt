@@ -1,9 +1,9 @@
 // The counter mode of GCM (SP 800-38D, 6.2 and 6.5).
 
-ghost use Rattle.std.specs.Prelude.{◌≡◌, ◌≤◌, ◌<◌, ℕ, length};
+ghost use Rattle.std.specs.Prelude.{◌≡◌, ◌<◌, ℕ};
 ghost use Rattle.aes_block.specs.Cipher.{aes};
 ghost use Rattle.gcm_seal.specs.Gcm.{counter_block, inc32, gctr};
-ghost use Rattle.byte_blocks.specs.Blocks.{block_at, xor_bytes};
+ghost use Rattle.byte_blocks.specs.Blocks.{block_at};
 
 use super::BLOCK_LEN;
 use aes_block::Aes;

@@ -2,7 +2,7 @@ use Rattle.std.proofs.Common.{◌≡◌, ◌+◌, ◌*◌, [], length, refl, sym
 use Rattle.std.proofs.lemmas.List.{take_all}
 use Rattle.std.specs.Int.{div_ceil}
 use Rattle.hmac_hkdf.specs.Hkdf.{expand_block, expand_blocks, hkdf}
-use Rattle.byte_blocks.proofs.Cut.{filled_more, length-with_block}
+use Rattle.byte_blocks.proofs.Cut.{filled_more}
 use Rattle.hmac_hkdf.proofs.Expand.{expand_block-next, expand_blocks-next}
 use Rattle.hmac_hkdf.proofs.hkdf.hkdf512.Goals as goal
 
