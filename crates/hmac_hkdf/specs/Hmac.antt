@@ -15,11 +15,11 @@ padded_key hash block_length key =
     let actual = actual_key hash block_length key in
     actual ++ replicate (block_length - length actual) 0
 
--- the padded key xored with ipad, which is a block of one byte (2, step 2)
+-- the padded key xored with ipad, a block of the byte 0x36 (2, step 2)
 abbrev pub inner_block : (List ℕ → List ℕ) → ℕ → List ℕ → List ℕ
 inner_block hash block_length key = xor_bytes (padded_key hash block_length key) (replicate block_length 0x36)
 
--- the padded key xored with opad (2, step 5)
+-- the padded key xored with opad, a block of the byte 0x5C (2, step 5)
 abbrev pub outer_block : (List ℕ → List ℕ) → ℕ → List ℕ → List ℕ
 outer_block hash block_length key = xor_bytes (padded_key hash block_length key) (replicate block_length 0x5C)
 
