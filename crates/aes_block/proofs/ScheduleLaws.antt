@@ -1,9 +1,12 @@
 -- The key schedule word by word, as a loop over the words makes it.
-use Rattle.std.proofs.Common.{◌≡◌, ◌≢◌, ℕ, zero, suc, ◌+◌, ◌-◌, ◌*◌, ◌/◌, ◌%◌, ◌<◌, ◌≤◌, List, [], ◌∷◌, ◌++◌, length, take, drop, refl, sym, ap, ◌∙◌, arith}
+use Rattle.std.proofs.Common.{◌≡◌, ◌≢◌, ℕ, zero, suc, ◌+◌, ◌-◌, ◌*◌, ◌/◌, ◌%◌, ◌<◌, ◌≤◌, List, [], ◌∷◌, ◌++◌, length, slice_index, take, drop, refl, sym, ap, ◌∙◌, arith}
 use Rattle.std.proofs.Math.Nat.{add-mul, div-add-mod', div-eq_of_lt-le, one-mul, suc-mul, zero-mul}
 use Rattle.std.proofs.lemmas.Bool.Decides.{nat_tests}
 use Rattle.std.proofs.lemmas.List.{get_or-take, length-append, length-drop, length-take-le, take-append-le, take-take, take_all, take_at}
-use Rattle.aes_block.specs.Field.{power, xtimes}
+use Rattle.std.proofs.lemmas.List.FromFn.{fill_by_all}
+use Rattle.byte_blocks.specs.Blocks.{xor_bytes}
+use Rattle.byte_blocks.proofs.Xor.{get_or-xor_bytes, length-xor_bytes}
+use Rattle.aes_block.specs.Field.{◌⊕◌, power, xtimes}
 use Rattle.aes_block.specs.Cipher.{add_words, key_expansion, next_word, rcon, rot_word, sub_word, temp, word, words_after}
 use Rattle.aes_block.proofs.FieldLaws.{product-two}
 
@@ -155,3 +158,12 @@ words_after-none nk key rest size =
 pub length_over_front : (n m : ℕ) (front rest : List ℕ) → length front ≡ n → n ≤ m → length rest ≡ m → length (front ++ drop n rest) ≡ m
 length_over_front n m front rest size within whole =
     omega (arith, length-append front (drop n rest), length-drop n rest)
+
+-- ---- words
+
+-- the sum of two words is their xor byte by byte
+pub words_added : (a b : List ℕ) → length a ≡ 4 → length b ≡ 4 → xor_bytes a b ≡ add_words a b
+unfolding add_words
+words_added a b long other =
+    fill_by_all (λ r. slice_index a r ⊕ slice_index b r) (xor_bytes a b) 4 0 (length-xor_bytes a b (omega arith) ∙ long)
+    (λ k lt. get_or-xor_bytes a b k (omega arith) (omega arith))

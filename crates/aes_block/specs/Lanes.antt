@@ -26,6 +26,11 @@ sum_by_bits (x ∷ xs) b = bit_xor (b % 2 * x) (sum_by_bits xs (b / 2))
 unfoldable pub tower : ℕ → ℕ
 tower b = sum_by_bits (112 ∷ 42 ∷ 152 ∷ 8 ∷ 77 ∷ 124 ∷ 125 ∷ 129 ∷ []) b
 
+-- w are the bytes of a key schedule, and t the same with the affine map's constant added, in the tower's basis
+pub record AreTowers (w t : List ℕ) : Type 0 where
+  pub bytes : (k : ℕ) → slice_index w k < 256
+  pub each : (k : ℕ) → k < 240 → slice_index t k ≡ tower (slice_index w k ⊕ 0x63)
+
 -- the inverses in GF(2^4); that of 0 is no place
 abbrev pub inverses : List ℕ
 inverses = 128 ∷ 1 ∷ 8 ∷ 13 ∷ 15 ∷ 6 ∷ 5 ∷ 14 ∷ 2 ∷ 12 ∷ 11 ∷ 10 ∷ 9 ∷ 3 ∷ 7 ∷ 4 ∷ []

@@ -2,10 +2,10 @@
 // state is held in the tower's basis from one round to the next. All is inlined, so that the
 // compiler sees what is computed twice.
 
-ghost use Rattle.std.specs.Prelude.{◌≡◌, ◌≤◌, ◌<◌, ◌+◌, ◌*◌, ◌/◌, ◌%◌, ℕ, List, slice_index, bit_xor, true};
+ghost use Rattle.std.specs.Prelude.{◌≡◌, ◌≤◌, ◌<◌, ◌+◌, ◌-◌, ◌*◌, ◌/◌, ◌%◌, ℕ, List, slice_index, bit_xor, true};
 ghost use Rattle.aes_block.specs.Field.{◌⊕◌};
-ghost use Rattle.aes_block.specs.Cipher.{mix_columns, shift_rows, sub_bytes};
-ghost use Rattle.aes_block.specs.Lanes.{HasLanes, at_places, first_place, first_sum, halves_sum, is_place, looked, second_place, second_sum, tower};
+ghost use Rattle.aes_block.specs.Cipher.{IsKeySize, mix_columns, shift_rows, state_after, sub_bytes};
+ghost use Rattle.aes_block.specs.Lanes.{AreTowers, HasLanes, at_places, first_place, first_sum, halves_sum, is_place, looked, second_place, second_sum, tower};
 
 use crate::SCHEDULE_LEN;
 use std::simd::prelude::*;
@@ -211,6 +211,42 @@ pub(crate) fn round(v: u8x32, words: u8x32) -> u8x32
     let near = sum(own, next);
     let mixed = sum(far, near);
     sum(mixed, words)
+}
+
+// Round `number` of the rounds that are alike, by the words of a key schedule in the tower's basis
+// (FIPS 197, 5.1, Algorithm 1).
+#[inline(always)]
+pub(crate) fn keyed_round(v: u8x32, tower_words: &[u8; SCHEDULE_LEN], number: usize) -> u8x32
+    requires from { 1 ≤ number }
+    requires within { number ≤ 14 }
+    ensures { (w : List ℕ) (s : ℕ → List ℕ) → AreTowers w tower_words.now → ((b k : ℕ) → slice_index (s b) k < 256)
+        → HasLanes v (λ i. tower (slice_index (state_after w (s (i / 16)) (number - 1)) (i % 16)))
+        → HasLanes result (λ i. tower (slice_index (state_after w (s (i / 16)) number) (i % 16))) }
+{
+    round(v, round_words(tower_words, number))
+}
+
+// Each round by its number, so that none is counted when the cipher runs.
+macro_rules! each_round {
+    ($v:expr, $words:expr;) => { $v };
+    ($v:expr, $words:expr; $number:literal $($more:literal)*) => {
+        each_round!(keyed_round($v, $words, $number), $words; $($more)*)
+    };
+}
+
+// The rounds that are alike, for a key of `NK` words.
+#[inline(always)]
+pub(crate) fn keyed_rounds<const NK: usize>(v: u8x32, tower_words: &[u8; SCHEDULE_LEN]) -> u8x32
+    requires { IsKeySize NK }
+    ensures { (w : List ℕ) (s : ℕ → List ℕ) → AreTowers w tower_words.now → ((b k : ℕ) → slice_index (s b) k < 256)
+        → HasLanes v (λ i. tower (slice_index (state_after w (s (i / 16)) 0) (i % 16)))
+        → HasLanes result (λ i. tower (slice_index (state_after w (s (i / 16)) (NK + 5)) (i % 16))) }
+{
+    match NK {
+        4 => each_round!(v, tower_words; 1 2 3 4 5 6 7 8 9),
+        6 => each_round!(v, tower_words; 1 2 3 4 5 6 7 8 9 10 11),
+        _ => each_round!(v, tower_words; 1 2 3 4 5 6 7 8 9 10 11 12 13),
+    }
 }
 
 // The round without mixed columns, from the tower's basis.

@@ -7,7 +7,9 @@ ghost use Rattle.aes_block.specs.Cipher.{IsKeySize, aes};
 ghost use Rattle.aes_block.specs.Lanes.{HasLanes, tower};
 
 use crate::field::xtimes;
-use crate::lanes::{CONSTANT, last_round, round, round_words, side_by_side, sum, tower, towers};
+use crate::lanes::{
+    CONSTANT, keyed_rounds, last_round, round_words, side_by_side, sum, tower, towers,
+};
 use crate::schedule::{next_word, put_word};
 use crate::state::{add_round_key, mix_columns, shift_rows, sub_bytes};
 use crate::tables::{counted_round, counted_sub_bytes};
@@ -36,6 +38,30 @@ pub struct Aes<const NK: usize> {
     words: [u8; SCHEDULE_LEN],
     // The same with the affine map's constant added, in the basis that the rounds work in.
     tower_words: [u8; SCHEDULE_LEN],
+}
+
+/// The value of an expression in which `$cipher` is `$key` made ready: `$key` is a slice of 16, 24
+/// or 32 bytes, and the expression stands once for each of these lengths.
+///
+///     let encrypted = with_aes!(key, cipher => encrypted(&cipher, block));
+#[macro_export]
+macro_rules! with_aes {
+    ($key:expr, $cipher:ident => $value:expr) => {
+        match $key.len() {
+            16 => {
+                let $cipher = $crate::Aes::<4>::expand($key);
+                $value
+            }
+            24 => {
+                let $cipher = $crate::Aes::<6>::expand($key);
+                $value
+            }
+            _ => {
+                let $cipher = $crate::Aes::<8>::expand($key);
+                $value
+            }
+        }
+    };
 }
 
 impl<const NK: usize> Model for Aes<NK> {
@@ -118,12 +144,9 @@ impl<const NK: usize> Aes<NK> {
             → HasLanes pair (λ i. slice_index (s (i / 16)) (i % 16))
             → HasLanes result (λ i. slice_index (aes self.now (s (i / 16))) (i % 16)) }
     {
-        let mut state = towers(sum(pair, round_words(&self.words, 0)));
-        let rounds = NK + EXTRA_ROUNDS;
-        'rounds: for number in 1..rounds {
-            state = round(state, round_words(&self.tower_words, number));
-        }
-        last_round(state, round_words(&self.words, rounds))
+        let start = towers(sum(pair, round_words(&self.words, 0)));
+        let before_last = keyed_rounds::<NK>(start, &self.tower_words);
+        last_round(before_last, round_words(&self.words, NK + EXTRA_ROUNDS))
     }
 
     /// Does the same as `encrypt_block` by tables, and adds the number of its look-ups to `looks`:

@@ -6,6 +6,7 @@ ghost use Rattle.aes_block.specs.Cipher.{add_words, next_word, rot_word, sub_wor
 
 use crate::SCHEDULE_LEN;
 use crate::field::sbox_by_table;
+use byte_blocks::xor_into;
 
 // ROTWORD (5.2).
 fn rot_word(a: [u8; 4]) -> [u8; 4]
@@ -29,7 +30,9 @@ fn sub_word(a: [u8; 4]) -> [u8; 4]
 fn add_words(a: [u8; 4], b: [u8; 4]) -> [u8; 4]
     ensures { result ≡ add_words a b }
 {
-    [a[0] ^ b[0], a[1] ^ b[1], a[2] ^ b[2], a[3] ^ b[3]]
+    let mut sum = a;
+    xor_into(&mut sum, &b);
+    sum
 }
 
 fn word(words: &[u8; SCHEDULE_LEN], i: usize) -> [u8; 4]

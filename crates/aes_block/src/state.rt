@@ -7,6 +7,7 @@ ghost use Rattle.aes_block.specs.Cipher.{add_round_key, mix_columns, shift_rows,
 
 use crate::SCHEDULE_LEN;
 use crate::field::{sbox, xtimes};
+use byte_blocks::{block_at, xor_into};
 
 // SUBBYTES (5.1.1).
 pub(crate) fn sub_bytes(state: &mut [u8; 16])
@@ -56,7 +57,5 @@ pub(crate) fn add_round_key(state: &mut [u8; 16], words: &[u8; SCHEDULE_LEN], ro
     requires { round ≤ 14 }
     ensures { state.new ≡ add_round_key state.old words.now round }
 {
-    'bytes: for i in 0..16 {
-        state[i] ^= words[16 * round + i];
-    }
+    xor_into(state, block_at(words, 16, round));
 }

@@ -1,11 +1,10 @@
 // What each command answers.
-ghost use Rattle.std.specs.Prelude.{◌≡◌, ◌≤◌, ◌*◌, ◌↔◌, length, IsOk};
-ghost use Rattle.aes_block.specs.Cipher.{IsKeySize};
+ghost use Rattle.std.specs.Prelude.{◌≤◌, ◌↔◌, IsOk};
 ghost use Rattle.gcm_seal.specs.Gcm.{IsKeyLength};
 
 use crate::block::{answer_open_block, answer_seal_block};
 use crate::words::{array, bytes, hex_word, number};
-use aes_block::Aes;
+use aes_block::{Aes, with_aes};
 use anyhow::{Result, bail, ensure};
 use gcm_seal::{MAX_AAD_LEN, MAX_TEXT_LEN, seal, unseal};
 use hmac_hkdf::{Hmac512, hkdf512, hmac1, hmac512};
@@ -51,20 +50,12 @@ pub(crate) fn answer(alloc: Global, line: &str) -> Result<String> {
 // The block after its encryption, `count` times one after the other.
 fn answer_aes(alloc: Global, key: &str, block: [u8; 16], count: u32) -> Result<String> {
     let key = bytes(alloc, key)?;
-    let encrypted = match key.len() {
-        16 => encrypt_times::<4>(&key, block, count),
-        24 => encrypt_times::<6>(&key, block, count),
-        32 => encrypt_times::<8>(&key, block, count),
-        _ => bail!("a key has 16, 24 or 32 bytes"),
-    };
+    ensure_lengths(key.len(), 0, 0)?;
+    let encrypted = with_aes!(key.as_slice(), cipher => encrypt_times(&cipher, block, count));
     hex_word(alloc, &encrypted)
 }
 
-fn encrypt_times<const NK: usize>(key: &[u8], block: [u8; 16], count: u32) -> [u8; 16]
-    requires size { IsKeySize NK }
-    requires whole { length key.now ≡ 4 * NK }
-{
-    let cipher = Aes::<NK>::expand(key);
+fn encrypt_times<const NK: usize>(cipher: &Aes<NK>, block: [u8; 16], count: u32) -> [u8; 16] {
     let mut block = block;
     for _ in 0..count {
         cipher.encrypt_block(&mut block);

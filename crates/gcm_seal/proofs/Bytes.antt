@@ -6,7 +6,8 @@ use Rattle.std.specs.Int.{div_ceil, byte_at, bytes_high_first}
 use Rattle.std.specs.Int.Bits.{xor_lt}
 use Rattle.aes_block.specs.Cipher.{aes}
 use Rattle.aes_block.proofs.CipherLaws.{AreBytes, aes-bytes}
-use Rattle.gcm_seal.specs.Gcm.{block_at, block_of, inc32, counter_block, xor_bytes, gctr_blocks, gctr, ghash, j0, gcm_text, gcm_tag, gcm_seal}
+use Rattle.gcm_seal.specs.Gcm.{block_of, inc32, counter_block, gctr_blocks, gctr, ghash, j0, gcm_text, gcm_tag, gcm_seal}
+use Rattle.byte_blocks.specs.Blocks.{block_at, xor_bytes}
 
 append-bytes : (x y : List ℕ) → AreBytes x → AreBytes y → AreBytes (x ++ y)
 append-bytes x y p q i =
@@ -22,7 +23,7 @@ take-bytes n x p i =
       | inr ge ↦ rw (get_or_past (take n x) i 0 (omega (arith, length-take n x))) (omega arith)
     ]
 
-block_at-bytes : (x : List ℕ) (i : ℕ) → AreBytes x → AreBytes (block_at x i)
+block_at-bytes : (x : List ℕ) (i : ℕ) → AreBytes x → AreBytes (block_at 16 x i)
 block_at-bytes x i p = take-bytes 16 (drop (16 * i) x) (λ k. rw (get_or-drop (16 * i) x k 0) (p (16 * i + k)))
 
 xor_bytes-bytes : (x y : List ℕ) → AreBytes x → AreBytes y → AreBytes (xor_bytes x y)
@@ -35,8 +36,8 @@ gctr_blocks-bytes : (key icb x : List ℕ) (n : ℕ) → AreBytes key → AreByt
 unfolding gctr_blocks
 gctr_blocks-bytes key icb x zero p q = λ i. omega arith
 gctr_blocks-bytes key icb x (suc n) p q =
-    append-bytes (gctr_blocks key icb x n) (xor_bytes (block_at x n) (aes key (counter_block icb n))) (gctr_blocks-bytes key icb x n p q)
-    (xor_bytes-bytes (block_at x n) (aes key (counter_block icb n)) (block_at-bytes x n q) (aes-bytes key (counter_block icb n) p))
+    append-bytes (gctr_blocks key icb x n) (xor_bytes (block_at 16 x n) (aes key (counter_block icb n))) (gctr_blocks-bytes key icb x n p q)
+    (xor_bytes-bytes (block_at 16 x n) (aes key (counter_block icb n)) (block_at-bytes x n q) (aes-bytes key (counter_block icb n) p))
 
 gctr-bytes : (key icb x : List ℕ) → AreBytes key → AreBytes x → AreBytes (gctr key icb x)
 unfolding gctr

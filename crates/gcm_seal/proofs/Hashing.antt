@@ -3,7 +3,8 @@ use Rattle.std.proofs.Common.{◌≡◌, ℕ, zero, suc, ◌+◌, ◌-◌, ◌*�
 use Rattle.std.proofs.lemmas.List.{drop-append-le, drop-replicate, take_all, append-nil, length-replicate}
 use Rattle.std.proofs.lemmas.Bool.{cases_lt}
 use Rattle.std.specs.Int.{w128, div_ceil, from_be_bytes, to_be_bytes}
-use Rattle.gcm_seal.specs.Gcm.{block_at, number_of, block_of, product, y_at, ghash_value, ghash, padded}
+use Rattle.gcm_seal.specs.Gcm.{number_of, block_of, product, y_at, ghash_value, ghash, padded}
+use Rattle.byte_blocks.specs.Blocks.{block_at}
 use Rattle.gcm_seal.proofs.Blocks.{length-block_at, block_at-append, block_at-append_right}
 
 -- y_at reads only the blocks that it counts
@@ -11,10 +12,10 @@ y_at-append : (h : ℕ) (x y : List ℕ) (n : ℕ) → 16 * n ≤ length x → y
 unfolding y_at
 y_at-append h x y zero fits = refl
 y_at-append h x y (suc n) fits =
-    let block : block_at (x ++ y) n ≡ block_at x n = block_at-append x y n (omega arith) in
+    let block : block_at 16 (x ++ y) n ≡ block_at 16 x n = block_at-append x y n (omega arith) in
     rw (y_at-append h x y n (omega arith), block) refl
 
-y_at_next : (h : ℕ) (x : List ℕ) (n : ℕ) → y_at h x (n + 1) ≡ product (bit_xor (y_at h x n) (number_of (block_at x n))) h
+y_at_next : (h : ℕ) (x : List ℕ) (n : ℕ) → y_at h x (n + 1) ≡ product (bit_xor (y_at h x n) (number_of (block_at 16 x n))) h
 unfolding y_at
 y_at_next h x n = rw add-one refl
 
@@ -33,20 +34,20 @@ padded_whole x whole =
 
 -- a block of the padded string is the string's own, with zeros up to 16 bytes
 block_at-padded : (x : List ℕ) (i : ℕ) → i < div_ceil (length x) 16
-    → block_at (padded x) i ≡ block_at x i ++ replicate (16 - length (block_at x i)) 0
+    → block_at 16 (padded x) i ≡ block_at 16 x i ++ replicate (16 - length (block_at 16 x i)) 0
 unfolding padded
 block_at-padded x i h =
     let n : ℕ = 16 * div_ceil (length x) 16 - length x in
-    let len : length (block_at x i) ≡ _ = length-block_at x i in
+    let len : length (block_at 16 x i) ≡ _ = length-block_at x i in
     elim (cases_lt (length x) (16 * i + 16)) [
       | inl short ↦
-          let rest : block_at x i ≡ drop (16 * i) x = take_all 16 (drop (16 * i) x) (omega (arith, length-drop (16 * i) x)) in
+          let rest : block_at 16 x i ≡ drop (16 * i) x = take_all 16 (drop (16 * i) x) (omega (arith, length-drop (16 * i) x)) in
           let whole : length (drop (16 * i) x ++ replicate n 0) ≤ 16 =
           omega (arith, length-append (drop (16 * i) x) (replicate n 0), length-drop (16 * i) x, length-replicate {A = ℕ} n 0) in
-          let zeros : 16 - length (block_at x i) ≡ n = omega arith in
+          let zeros : 16 - length (block_at 16 x i) ≡ n = omega arith in
           ap (take 16) (drop-append-le (16 * i) x (replicate n 0) (omega arith)) ∙ take_all 16 _ whole ∙ rw (zeros, rest) refl
       | inr long ↦
-          let none : 16 - length (block_at x i) ≡ 0 = omega arith in
+          let none : 16 - length (block_at 16 x i) ≡ 0 = omega arith in
           block_at-append x (replicate n 0) i long ∙ rw (none, append-nil) refl
     ]
 
@@ -60,11 +61,11 @@ absorb_none h state x y whole e =
 -- one block more
 pub absorb_more : (h state number : ℕ) (x y : List ℕ) (i : ℕ) → length x % 16 ≡ 0 → i < div_ceil (length y) 16
     → state ≡ y_at h (x ++ padded y) (length x / 16 + i)
-    → number ≡ number_of (block_at y i ++ replicate (16 - length (block_at y i)) 0)
+    → number ≡ number_of (block_at 16 y i ++ replicate (16 - length (block_at 16 y i)) 0)
     → product (bit_xor state number) h ≡ y_at h (x ++ padded y) (length x / 16 + (i + 1))
 absorb_more h state number x y i whole within e f =
     let n : length x / 16 + (i + 1) ≡ length x / 16 + i + 1 = omega arith in
-    let block : block_at (x ++ padded y) (length x / 16 + i) ≡ block_at y i ++ replicate (16 - length (block_at y i)) 0 =
+    let block : block_at 16 (x ++ padded y) (length x / 16 + i) ≡ block_at 16 y i ++ replicate (16 - length (block_at 16 y i)) 0 =
     block_at-append_right x (padded y) (length x / 16) i (omega arith) ∙ block_at-padded y i within in
     rw (n, y_at_next, block, ← e, ← f) refl
 

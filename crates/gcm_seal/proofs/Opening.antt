@@ -6,28 +6,30 @@ use Rattle.std.proofs.lemmas.Slice.Eq.{bytes_eq-Decides}
 use Rattle.std.specs.Str.{bytes_eq}
 use Rattle.std.specs.Int.{div_ceil}
 use Rattle.aes_block.specs.Cipher.{aes}
-use Rattle.gcm_seal.specs.Gcm.{block_at, block_of, inc32, counter_block, xor_bytes, gctr_blocks, gctr, ghash, j0, gcm_tag, gcm_text, gcm_seal, gcm_open}
-use Rattle.gcm_seal.proofs.Blocks.{length-xor_bytes, xor_bytes-xor_bytes, length-block_at, block_at-append}
+use Rattle.gcm_seal.specs.Gcm.{block_of, inc32, counter_block, gctr_blocks, gctr, ghash, j0, gcm_tag, gcm_text, gcm_seal, gcm_open}
+use Rattle.byte_blocks.specs.Blocks.{block_at, xor_bytes}
+use Rattle.gcm_seal.proofs.Blocks.{length-block_at, block_at-append}
+use Rattle.byte_blocks.proofs.Xor.{length-xor_bytes, xor_bytes-xor_bytes}
 use Rattle.gcm_seal.proofs.Counting.{key_stream_covers, length-gctr_blocks, length-gctr}
 
 -- block i of what GCTR gives of n blocks
 block_at-gctr_blocks : (key icb x : List ℕ) (n i : ℕ) → i < n → 16 * n < length x + 16
-    → block_at (gctr_blocks key icb x n) i ≡ xor_bytes (block_at x i) (aes key (counter_block icb i))
+    → block_at 16 (gctr_blocks key icb x n) i ≡ xor_bytes (block_at 16 x i) (aes key (counter_block icb i))
 unfolding gctr_blocks
 block_at-gctr_blocks key icb x zero i l fits = absurd (omega arith)
 block_at-gctr_blocks key icb x (suc n) i l fits =
-    let last : List ℕ = xor_bytes (block_at x n) (aes key (counter_block icb n)) in
+    let last : List ℕ = xor_bytes (block_at 16 x n) (aes key (counter_block icb n)) in
     let len : length (gctr_blocks key icb x n) ≡ 16 * n = length-gctr_blocks key icb x n ∙ omega arith in
     elim (cases_lt i n) [
       | inl below ↦ block_at-append (gctr_blocks key icb x n) last i (omega arith) ∙ block_at-gctr_blocks key icb x n i below (omega arith)
       | inr from ↦
           let same : i ≡ n = omega arith in
           let short : length last ≤ 16 =
-          omega (arith, length-xor_bytes (block_at x n) (aes key (counter_block icb n)) (key_stream_covers key icb x n), length-block_at x n) in
+          omega (arith, length-xor_bytes (block_at 16 x n) (aes key (counter_block icb n)) (key_stream_covers key icb x n), length-block_at x n) in
           rw same (ap (take 16) (drop_at (gctr_blocks key icb x n) last (16 * n) len) ∙ take_all 16 last short)
     ]
 
-take_block : (x : List ℕ) (n : ℕ) → take (16 * suc n) x ≡ take (16 * n) x ++ block_at x n
+take_block : (x : List ℕ) (n : ℕ) → take (16 * suc n) x ≡ take (16 * n) x ++ block_at 16 x n
 take_block x n =
     let next : 16 * suc n ≡ 16 * n + 16 = omega arith in
     let whole : take (16 * n) (take (16 * n + 16) x) ++ drop (16 * n) (take (16 * n + 16) x) ≡ take (16 * n + 16) x =
@@ -41,8 +43,8 @@ unfolding gctr_blocks
 gctr_blocks-gctr_blocks key icb x m zero l fits = refl
 gctr_blocks-gctr_blocks key icb x m (suc n) l fits =
     let stream : List ℕ = aes key (counter_block icb n) in
-    let block : block_at (gctr_blocks key icb x m) n ≡ xor_bytes (block_at x n) stream = block_at-gctr_blocks key icb x m n (omega arith) fits in
-    let twice : xor_bytes (xor_bytes (block_at x n) stream) stream ≡ block_at x n = xor_bytes-xor_bytes (block_at x n) stream (key_stream_covers key icb x n) in
+    let block : block_at 16 (gctr_blocks key icb x m) n ≡ xor_bytes (block_at 16 x n) stream = block_at-gctr_blocks key icb x m n (omega arith) fits in
+    let twice : xor_bytes (xor_bytes (block_at 16 x n) stream) stream ≡ block_at 16 x n = xor_bytes-xor_bytes (block_at 16 x n) stream (key_stream_covers key icb x n) in
     rw (gctr_blocks-gctr_blocks key icb x m n (omega arith) fits, block, twice) (sym (take_block x n))
 
 -- GCTR is its own inverse

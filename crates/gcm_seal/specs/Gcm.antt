@@ -5,6 +5,7 @@
 use Rattle.std.specs.Prelude.{ℕ, zero, suc, ◌+◌, ◌-◌, ◌*◌, ◌/◌, ◌%◌, ◌^◌, List, [], ◌∷◌, ◌++◌, length, take, drop, replicate, bit_xor, ◌==◌, if◌then◌else◌, bytes_eq, Option, Some, None, ◌≡◌, ◌⊎◌}
 use Rattle.std.specs.Int.{w32, w64, w128, bit_at, div_ceil, from_be_bytes, to_be_bytes}
 use Rattle.aes_block.specs.Cipher.{aes}
+use Rattle.byte_blocks.specs.Blocks.{block_at, xor_bytes}
 
 -- ---- blocks
 
@@ -15,10 +16,6 @@ number_of block = from_be_bytes w128 block
 -- [x]_128 (6.1)
 unfoldable pub block_of : ℕ → List ℕ
 block_of x = to_be_bytes w128 x
-
--- block i of a string, which is shorter than the others where the string ends in it
-abbrev pub block_at : List ℕ → ℕ → List ℕ
-block_at x i = take 16 (drop (16 * i) x)
 
 -- inc_32(X) (6.2): the last 32 bits count up modulo 2 ^ 32, and the others stay
 unfoldable pub inc32 : List ℕ → List ℕ
@@ -53,7 +50,7 @@ product x y = z_at x y 128
 -- Y_i
 unfoldable pub y_at : ℕ → List ℕ → ℕ → ℕ
 y_at h x zero = 0
-y_at h x (suc i) = product (bit_xor (y_at h x i) (number_of (block_at x i))) h
+y_at h x (suc i) = product (bit_xor (y_at h x i) (number_of (block_at 16 x i))) h
 
 -- Y_m, of all m blocks
 unfoldable pub ghash_value : ℕ → List ℕ → ℕ
@@ -69,17 +66,11 @@ unfoldable pub counter_block : (icb : List ℕ) → ℕ → List ℕ
 counter_block icb zero = icb
 counter_block icb (suc i) = inc32 (counter_block icb i)
 
--- X ⊕ MSB_len(X)(Y): the bytes of x with those that y begins with
-abbrev pub xor_bytes : List ℕ → List ℕ → List ℕ
-xor_bytes [] y = []
-xor_bytes (a ∷ x) [] = []
-xor_bytes (a ∷ x) (b ∷ y) = bit_xor a b ∷ xor_bytes x y
-
--- the first n blocks of the result
+-- the first n blocks of the result: each is X ⊕ MSB_len(X)(Y) of a block X of the text and its key stream Y
 unfoldable pub gctr_blocks : (key icb x : List ℕ) → ℕ → List ℕ
 gctr_blocks key icb x zero = []
 gctr_blocks key icb x (suc i) =
-    gctr_blocks key icb x i ++ xor_bytes (block_at x i) (aes key (counter_block icb i))
+    gctr_blocks key icb x i ++ xor_bytes (block_at 16 x i) (aes key (counter_block icb i))
 
 unfoldable pub gctr : (key icb x : List ℕ) → List ℕ
 gctr key icb x = gctr_blocks key icb x (div_ceil (length x) 16)

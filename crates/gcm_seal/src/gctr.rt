@@ -1,11 +1,13 @@
 // The counter mode of GCM (SP 800-38D, 6.2 and 6.5).
 
-ghost use Rattle.std.specs.Prelude.{◌≡◌, ◌≤◌, ◌<◌, ℕ, length};
+ghost use Rattle.std.specs.Prelude.{◌≡◌, ◌<◌, ℕ};
 ghost use Rattle.aes_block.specs.Cipher.{aes};
-ghost use Rattle.gcm_seal.specs.Gcm.{block_at, counter_block, inc32, gctr, xor_bytes};
+ghost use Rattle.gcm_seal.specs.Gcm.{counter_block, inc32, gctr};
+ghost use Rattle.byte_blocks.specs.Blocks.{block_at};
 
 use super::BLOCK_LEN;
 use aes_block::Aes;
+use byte_blocks::xor_block;
 
 // The blocks of key stream that are made in one call, and their bytes.
 const GROUP_BLOCKS: usize = 8;
@@ -18,16 +20,14 @@ pub fn apply<const NK: usize>(cipher: &Aes<NK>, initial: [u8; 16], text: &mut [u
 {
     let mut counter = initial;
     for i in 0..text.len().div_ceil(GROUP_LEN) {
-        let start = GROUP_LEN * i;
-        let end = text.len().min(start + GROUP_LEN);
         let stream = key_stream(cipher, &mut counter);
-        xor_into(&mut text[start..end], &stream);
+        xor_block(text, i, &stream);
     }
 }
 
 // The key stream of eight blocks from a counter block on, which counts up past them.
 fn key_stream<const NK: usize>(cipher: &Aes<NK>, counter: &mut [u8; 16]) -> [u8; 128]
-    ensures blocks { (j : ℕ) → j < 8 → block_at result j ≡ aes cipher.now (counter_block counter.old j) }
+    ensures blocks { (j : ℕ) → j < 8 → block_at 16 result j ≡ aes cipher.now (counter_block counter.old j) }
     ensures counted { counter.new ≡ counter_block counter.old 8 }
 {
     let mut stream = [0; GROUP_LEN];
@@ -46,13 +46,4 @@ pub fn inc32(block: &mut [u8; 16])
 {
     let counter = u32::from_be_bytes([block[12], block[13], block[14], block[15]]);
     block[12..].copy_from_slice(&counter.wrapping_add(1).to_be_bytes());
-}
-
-fn xor_into(part: &mut [u8], key_stream: &[u8; 128])
-    requires { length part.old ≤ 128 }
-    ensures { part.new ≡ xor_bytes part.old key_stream.now }
-{
-    for (i, byte) in part.iter_mut().enumerate() {
-        *byte ^= key_stream[i];
-    }
 }

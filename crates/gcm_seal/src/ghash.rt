@@ -6,6 +6,7 @@ ghost use Rattle.gcm_seal.specs.Multiples.{HasMultiples};
 
 use crate::product::{multiples, multiply};
 use crate::{BLOCK_LEN, MAX_AAD_LEN, MAX_TEXT_LEN};
+use byte_blocks::block_at;
 
 // GHASH of the padded `aad`, the padded `sealed` and the block of their lengths.
 pub fn hash(hash_subkey: [u8; 16], aad: &[u8], sealed: &[u8]) -> [u8; 16]
@@ -26,9 +27,7 @@ fn absorb(state: u128, multiples: &[u128; 256], bytes: &[u8]) -> u128
 {
     let mut y = state;
     for i in 0..bytes.len().div_ceil(BLOCK_LEN) {
-        let start = BLOCK_LEN * i;
-        let end = bytes.len().min(start + BLOCK_LEN);
-        y = multiply(y ^ padded_number(&bytes[start..end]), multiples);
+        y = multiply(y ^ padded_number(block_at(bytes, BLOCK_LEN, i)), multiples);
     }
     y
 }

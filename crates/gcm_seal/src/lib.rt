@@ -6,7 +6,7 @@ ghost use Rattle.std.specs.Prelude.{◌≡◌, ◌≤◌, ◌↔◌, length, Som
 ghost use Rattle.gcm_seal.specs.Gcm.{IsKeyLength, gcm_seal, gcm_open, gcm_tag, inc32, j0};
 
 pub use crate::product::{GhashTable, product_laws};
-use aes_block::Aes;
+use aes_block::{Aes, with_aes};
 use thiserror::Error;
 
 mod gctr;
@@ -41,11 +41,7 @@ pub fn seal(key: &[u8], iv: &[u8; 12], aad: &[u8], text: &mut [u8]) -> [u8; 16]
     ensures sealed { gcm_seal key.now iv.now aad.now text.old ≡ (text.new, result) }
     ensures opens { gcm_open key.now iv.now aad.now text.new result ≡ Some text.old }
 {
-    match key.len() {
-        16 => seal_with(&Aes::<4>::expand(key), iv, aad, text),
-        24 => seal_with(&Aes::<6>::expand(key), iv, aad, text),
-        _ => seal_with(&Aes::<8>::expand(key), iv, aad, text),
-    }
+    with_aes!(key, cipher => seal_with(&cipher, iv, aad, text))
 }
 
 /// Opens a sealed `text` in place: authenticated decryption, GCM-AD (7.2). The arguments are those
@@ -68,11 +64,7 @@ pub fn unseal(
     ensures bad_tag { IsErr result ↔ (gcm_open key.now iv.now aad.now text.old tag.now ≡ None) }
     ensures unchanged { OnErr result (text.new ≡ text.old) }
 {
-    match key.len() {
-        16 => unseal_with(&Aes::<4>::expand(key), iv, aad, text, tag),
-        24 => unseal_with(&Aes::<6>::expand(key), iv, aad, text, tag),
-        _ => unseal_with(&Aes::<8>::expand(key), iv, aad, text, tag),
-    }
+    with_aes!(key, cipher => unseal_with(&cipher, iv, aad, text, tag))
 }
 
 fn seal_with<const NK: usize>(
@@ -83,7 +75,8 @@ fn seal_with<const NK: usize>(
 ) -> [u8; 16]
     requires aad_length { length aad.now ≤ MAX_AAD_LEN }
     requires text_length { length text.old ≤ MAX_TEXT_LEN }
-    ensures { gcm_seal cipher.now iv.now aad.now text.old ≡ (text.new, result) }
+    ensures sealed { gcm_seal cipher.now iv.now aad.now text.old ≡ (text.new, result) }
+    ensures opens { gcm_open cipher.now iv.now aad.now text.new result ≡ Some text.old }
 {
     gctr::apply(cipher, first_counter_block(iv), text);
     tag_of(cipher, iv, aad, text)

@@ -1,8 +1,9 @@
 -- HMAC (RFC 2104) over a hash function on lists of bytes whose blocks have `block_length` bytes.
 -- Section numbers are the RFC's.
-use Rattle.std.specs.Prelude.{ℕ, ◌-◌, List, ◌++◌, length, map, replicate, bit_xor, nat_lt, if◌then◌else◌}
+use Rattle.std.specs.Prelude.{ℕ, ◌-◌, List, ◌++◌, length, replicate, nat_lt, if◌then◌else◌}
 use Rattle.sha1.specs.Sha1.{sha1}
 use Rattle.sha2.specs.Sha512.{sha512}
+use Rattle.byte_blocks.specs.Blocks.{xor_bytes}
 
 -- a key that is longer than a block is hashed first (2)
 abbrev pub actual_key : (List ℕ → List ℕ) → ℕ → List ℕ → List ℕ
@@ -14,17 +15,13 @@ padded_key hash block_length key =
     let actual = actual_key hash block_length key in
     actual ++ replicate (block_length - length actual) 0
 
--- a block of which each byte is xored with one byte, which the RFC repeats to a block
-abbrev pub xor_pad : ℕ → List ℕ → List ℕ
-xor_pad pad block = map (λ byte. bit_xor byte pad) block
-
--- the padded key under ipad (2, step 2)
+-- the padded key xored with ipad, a block of the byte 0x36 (2, step 2)
 abbrev pub inner_block : (List ℕ → List ℕ) → ℕ → List ℕ → List ℕ
-inner_block hash block_length key = xor_pad 0x36 (padded_key hash block_length key)
+inner_block hash block_length key = xor_bytes (padded_key hash block_length key) (replicate block_length 0x36)
 
--- the padded key under opad (2, step 5)
+-- the padded key xored with opad, a block of the byte 0x5C (2, step 5)
 abbrev pub outer_block : (List ℕ → List ℕ) → ℕ → List ℕ → List ℕ
-outer_block hash block_length key = xor_pad 0x5C (padded_key hash block_length key)
+outer_block hash block_length key = xor_bytes (padded_key hash block_length key) (replicate block_length 0x5C)
 
 -- H (K XOR opad, H (K XOR ipad, text)) (2)
 abbrev pub hmac : (List ℕ → List ℕ) → ℕ → List ℕ → List ℕ → List ℕ

@@ -4,6 +4,7 @@ ghost use Rattle.hmac_hkdf.specs.Hkdf.{hkdf};
 
 use crate::hmac::hmac512;
 use crate::pieces::Hmac512;
+use byte_blocks::put_block;
 
 const HASH_LENGTH: usize = 64;
 
@@ -31,8 +32,6 @@ pub fn hkdf512(ikm: &[u8], info: &[u8], out: &mut [u8])
         // No block comes before the first.
         let previous = &block[..HASH_LENGTH * i.min(1)];
         block = next_block(&prk, previous, info, (i + 1) as u8);
-        let start = HASH_LENGTH * i;
-        let end = out.len().min(start + HASH_LENGTH);
-        out[start..end].copy_from_slice(&block[..end - start]);
+        put_block(out, i, &block);
     }
 }

@@ -4,7 +4,9 @@
 #![tactic(auto)]
 
 ghost use Rattle.std.specs.Prelude.{◌≡◌, ◌-◌, ◌≤◌, ◌++◌, length, replicate};
-ghost use Rattle.hmac_hkdf.specs.Hmac.{xor_pad};
+ghost use Rattle.byte_blocks.specs.Blocks.{xor_bytes};
+
+use byte_blocks::xor_into;
 
 mod hkdf;
 mod hmac;
@@ -33,12 +35,11 @@ fn zero_padded<const N: usize>(key: &[u8]) -> [u8; N]
     block
 }
 
+// The block with each byte xored with `pad`.
 fn xor_pad<const N: usize>(block: &[u8; N], pad: u8) -> [u8; N]
-    ensures { result ≡ xor_pad pad block.now }
+    ensures { result ≡ xor_bytes block.now (replicate N pad) }
 {
     let mut padded = *block;
-    for byte in padded.iter_mut() {
-        *byte ^= pad;
-    }
+    xor_into(&mut padded, &[pad; N]);
     padded
 }

@@ -1,15 +1,13 @@
 -- A wrapping key has 32 bytes.
 use Rattle.std.proofs.Common.{◌≡◌, ℕ, zero, suc, ◌*◌, List, length, Option, Some, None, Ok, refl, sym, ◌∙◌, arith, subst, length-append, length-take}
-use Rattle.std.proofs.lemmas.List.{length-map}
-use Rattle.std.proofs.lemmas.Slice.Zip.{length-zip}
 use Rattle.std.specs.Int.{w32, w64, to_be_bytes, to_le_bytes}
-use Rattle.std.specs.List.{zip}
-use Rattle.std.specs.Prelude.{slice_index, bit_xor}
+use Rattle.std.specs.Prelude.{slice_index}
 use Rattle.hex.specs.Hex.{decode_of}
 use Rattle.hex.proofs.HexLemmas.{decode_of-ok, decode_sized-twice}
 use Rattle.sha1.specs.Sha1.{digest_bytes, sha1}
 use Rattle.hmac_hkdf.specs.Hmac.{hmac1}
-use Rattle.pbkdf2_keys.specs.Pbkdf2.{iterate, xor_bytes, block, blocks, pbkdf2}
+use Rattle.byte_blocks.proofs.Xor.{length-xor_bytes}
+use Rattle.pbkdf2_keys.specs.Pbkdf2.{iterate, block, blocks, pbkdf2}
 use Rattle.dataset_tree.specs.declared.kinds.Format.{Format}
 use Rattle.dataset_tree.specs.declared.kinds.Format.TheVariants.{Raw, Hex, Passphrase}
 use Rattle.dataset_tree.specs.declared.refusal.Refusal.{Refusal}
@@ -36,16 +34,13 @@ length-iterate : (secret salt : List ℕ) (c i : ℕ) → length (iterate secret
 unfolding iterate
 length-iterate secret salt c i = length-hmac1 secret (iterate secret salt c i)
 
-length-xor_bytes : (xs ys : List ℕ) → length xs ≡ 20 → length ys ≡ 20 → length (xor_bytes xs ys) ≡ 20
-length-xor_bytes xs ys left right =
-    let mapped = length-map (zip xs ys) (λ (x, y). bit_xor x y) in
-    let zipped = length-zip xs ys in
-    omega arith
-
 length-block : (secret salt : List ℕ) (c i : ℕ) → length (block secret salt c i) ≡ 20
 unfolding block
 length-block secret salt zero i = refl
-length-block secret salt (suc c) i = length-xor_bytes (block secret salt c i) (iterate secret salt (suc c) i) (length-block secret salt c i) (length-iterate secret salt c i)
+length-block secret salt (suc c) i =
+    let before = length-block secret salt c i in
+    let added = length-iterate secret salt c i in
+    length-xor_bytes (block secret salt c i) (iterate secret salt (suc c) i) (omega arith) ∙ before
 
 length-two_blocks : (secret salt : List ℕ) (c : ℕ) → length (blocks secret salt c 2) ≡ 40
 unfolding blocks

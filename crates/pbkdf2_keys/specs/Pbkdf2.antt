@@ -1,7 +1,7 @@
 -- PBKDF2 (RFC 8018, section 5.2) with HMAC-SHA-1 as the function PRF, whose values have 20 bytes.
-use Rattle.std.specs.Prelude.{ℕ, zero, suc, List, [], ◌++◌, take, map, replicate, bit_xor}
-use Rattle.std.specs.List.{zip}
+use Rattle.std.specs.Prelude.{ℕ, zero, suc, List, [], ◌++◌, take, replicate}
 use Rattle.std.specs.Int.{w32, div_ceil, to_be_bytes}
+use Rattle.byte_blocks.specs.Blocks.{xor_bytes}
 use Rattle.hmac_hkdf.specs.Hmac.{hmac1}
 
 -- S || INT (i): the salt, and the block's number as four bytes, most significant first
@@ -12,10 +12,6 @@ numbered_salt salt i = salt ++ to_be_bytes w32 i
 unfoldable pub iterate : List ℕ → List ℕ → ℕ → ℕ → List ℕ
 iterate secret salt zero i = numbered_salt salt i
 iterate secret salt (suc c) i = hmac1 secret (iterate secret salt c i)
-
--- the xor of two strings of bytes
-abbrev pub xor_bytes : List ℕ → List ℕ → List ℕ
-xor_bytes xs ys = map (λ (x, y). bit_xor x y) (zip xs ys)
 
 -- F (P, S, c, i): U_1 xor U_2 xor .. xor U_c, where the xor of none is all zeros
 unfoldable pub block : List ℕ → List ℕ → ℕ → ℕ → List ℕ

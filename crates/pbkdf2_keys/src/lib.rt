@@ -5,22 +5,15 @@
 
 ghost use Rattle.std.specs.Prelude.{◌≡◌, ℕ, ◌≤◌, List, length};
 ghost use Rattle.hmac_hkdf.specs.States.{IsMadeFor};
-ghost use Rattle.pbkdf2_keys.specs.Pbkdf2.{block, pbkdf2, xor_bytes};
+ghost use Rattle.pbkdf2_keys.specs.Pbkdf2.{block, pbkdf2};
 
+use byte_blocks::{put_block, xor_into};
 use hmac_hkdf::Hmac1Key;
 
 #[cfg(test)]
 mod tests;
 
 const HASH_LENGTH: usize = 20;
-
-fn xor_into(sum: &mut [u8; HASH_LENGTH], bytes: &[u8; HASH_LENGTH])
-    ensures { sum.new ≡ xor_bytes sum.old bytes.now }
-{
-    for i in 0..HASH_LENGTH {
-        sum[i] ^= bytes[i];
-    }
-}
 
 // The block of this number, from 1, of the derived key.
 fn derived_block(key: &Hmac1Key, salt: &[u8], iters: u32, number: u32) -> [u8; HASH_LENGTH]
@@ -47,8 +40,6 @@ pub fn pbkdf2(secret: &[u8], salt: &[u8], iters: u32, out: &mut [u8])
     let count = out.len().div_ceil(HASH_LENGTH);
     'fill: for i in 0..count {
         let block = derived_block(&key, salt, iters, (i + 1) as u32);
-        let start = HASH_LENGTH * i;
-        let end = out.len().min(start + HASH_LENGTH);
-        out[start..end].copy_from_slice(&block[..end - start]);
+        put_block(out, i, &block);
     }
 }

@@ -2,7 +2,7 @@ use Rattle.std.proofs.Common.{◌≡◌, ◌++◌, length, sym, rules, add-one}
 use Rattle.std.specs.Int.{w32, to_be_bytes}
 use Rattle.hmac_hkdf.specs.Hmac.{hmac1}
 use Rattle.pbkdf2_keys.specs.Pbkdf2.{block, iterate}
-use Rattle.pbkdf2_keys.proofs.Xor.{xor_bytes-zeros}
+use Rattle.byte_blocks.proofs.Xor.{xor_bytes-zeros}
 use Rattle.pbkdf2_keys.proofs.derived_block.Goals as goal
 
 pub loop-done-init : goal.loop-done-init

@@ -1,7 +1,7 @@
 use Rattle.std.proofs.Common.{◌≡◌, ℕ, ◌+◌, ◌*◌, List, [], ◌++◌, length, refl, sym, ◌∙◌, rules, arith, add-one}
 use Rattle.std.proofs.lemmas.List.{take_all}
 use Rattle.std.specs.Int.{div_ceil}
-use Rattle.hmac_hkdf.proofs.Cut.{take-put_more}
+use Rattle.byte_blocks.proofs.Cut.{filled_more}
 use Rattle.pbkdf2_keys.specs.Pbkdf2.{block, blocks, pbkdf2}
 use Rattle.pbkdf2_keys.proofs.pbkdf2.Goals as goal
 
@@ -18,7 +18,7 @@ fill-preserved c =
     let last = c.derived_block-block.result in
     let long : length last ≡ 20 = search rules in
     let is = c.derived_block-block.ensures c.args.secret.now c.new-key.ensures in
-    rw (← blocks-next c.args.secret.now c.args.salt.now last c.args.iters c.fill.i is) (take-put_more 20 c.fill.i c.min-end.result c.fill.out _ last c.copy_from_slice.new.self long (omega arith) c.min-end.ensures c.copy_from_slice.ensures.after c.fill.invariant)
+    rw (← blocks-next c.args.secret.now c.args.salt.now last c.args.iters c.fill.i is) (rw c.put_block.ensures (filled_more 20 c.fill.i c.fill.out _ last long (omega arith) c.fill.invariant))
 
 pub returns : goal.returns
 unfolding pbkdf2

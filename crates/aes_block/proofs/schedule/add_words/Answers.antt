@@ -1,7 +1,6 @@
-use Rattle.std.proofs.Common.{refl}
-use Rattle.aes_block.specs.Cipher.{add_words}
+use Rattle.std.proofs.Common.{◌∙◌, arith}
+use Rattle.aes_block.proofs.ScheduleLaws.{words_added}
 use Rattle.aes_block.proofs.schedule.add_words.Goals as goal
 
 pub returns : goal.returns
-unfolding add_words
-returns c = refl
+returns c = c.xor_into.ensures ∙ words_added c.args.a c.args.b (omega arith) (omega arith)

@@ -1,6 +1,5 @@
-use Rattle.std.proofs.Common.{◌≡◌, ◌-◌, ◌*◌, take, drop, arith, ◌∙◌}
-use Rattle.gcm_seal.specs.Gcm.{block_at}
-use Rattle.gcm_seal.proofs.Blocks.{block_from_part}
+use Rattle.std.proofs.Common.{◌-◌, arith, ◌∙◌}
+use Rattle.byte_blocks.specs.Blocks.{block_at}
 use Rattle.gcm_seal.proofs.Hashing.{absorb_none, absorb_more, absorb_all}
 use Rattle.gcm_seal.proofs.ghash.absorb.Goals as goal
 
@@ -11,11 +10,10 @@ pub loop-i-preserved : goal.loop-i-preserved
 loop-i-preserved c =
     let bytes = c.args.bytes.now in
     let i = c.loop-i.i in
-    let part : take (c.min-end.result - 16 * i) (drop (16 * i) bytes) ≡ block_at bytes i = rw c.min-end.ensures (block_from_part bytes i) in
     λ h x has whole e.
     c.multiply-y.ensures h has
     ∙ absorb_more h c.loop-i.y c.padded_number.result x bytes i whole (omega arith) (c.loop-i.invariant h x has whole e)
-    (rw part at c.padded_number.ensures)
+    (rw c.block_at.ensures at c.padded_number.ensures)
 
 pub returns : goal.returns
 returns c = λ h x has whole e. absorb_all h c.loop-i.y x c.args.bytes.now c.loop-i.i whole (omega arith) (c.loop-i.invariant h x has whole e)

@@ -2,7 +2,7 @@ use Rattle.std.proofs.Common.{◌≡◌, ◌+◌, ◌*◌, [], length, refl, sym
 use Rattle.std.proofs.lemmas.List.{take_all}
 use Rattle.std.specs.Int.{div_ceil}
 use Rattle.hmac_hkdf.specs.Hkdf.{expand_block, expand_blocks, hkdf}
-use Rattle.hmac_hkdf.proofs.Cut.{take-put_more}
+use Rattle.byte_blocks.proofs.Cut.{filled_more}
 use Rattle.hmac_hkdf.proofs.Expand.{expand_block-next, expand_blocks-next}
 use Rattle.hmac_hkdf.proofs.hkdf.hkdf512.Goals as goal
 
@@ -17,7 +17,7 @@ fill-preserved c =
     let new = expand_block-next c.hmac512-prk.result c.args.info.now _ block c.fill.i c.fill.invariant.last (rw (← c.min.ensures) c.next_block-block.ensures) in
     record {
       last = take_all (64 * min (c.fill.i + 1) 1) block (omega arith) ∙ new;
-      filled = rw (← expand_blocks-next c.hmac512-prk.result c.args.info.now block c.fill.i new) (take-put_more 64 c.fill.i c.min-end.result c.fill.out _ block c.copy_from_slice.new.self long (omega arith) c.min-end.ensures c.copy_from_slice.ensures.after c.fill.invariant.filled);
+      filled = rw (← expand_blocks-next c.hmac512-prk.result c.args.info.now block c.fill.i new) (rw c.put_block.ensures (filled_more 64 c.fill.i c.fill.out _ block long (omega arith) c.fill.invariant.filled));
     }
 
 pub returns : goal.returns

@@ -1,0 +1,2 @@
+pub mod Xor
+pub mod Cut
