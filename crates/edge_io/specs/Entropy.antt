@@ -12,8 +12,8 @@ pub record MovesNext (bytes : List ℕ) (left : Option (List ℕ)) (out : List �
 abbrev pub is_short : List ℕ → Bool
 is_short bytes = nat_lt (length bytes) 32
 
--- What is told of whether a fill fails, from the bytes left and from whether its call is listed, as far as these are told:
--- it fails where the call is listed or the bytes are short, and nowhere else.
+-- What is told of whether a fill fails, from the bytes left and from whether its call is listed, as far as
+-- these are told: it fails where the call is listed or the bytes are short, and nowhere else.
 abbrev pub fill_fails : Option (List ℕ) → Option Bool → Option Bool
 fill_fails left (Some true) = Some true
 fill_fails (Some bytes) (Some false) = Some (is_short bytes)

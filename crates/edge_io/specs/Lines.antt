@@ -1,4 +1,5 @@
--- Lines of a text. A line ends before a line feed, before a carriage return that a line feed follows, or where the text ends.
+-- Lines of a text. A line ends before a line feed, before a carriage return that a line feed follows, or
+-- where the text ends.
 use Rattle.std.specs.Prelude.{ℕ, Bool, true, false, ◌||◌, ◌&&◌, List, [], ◌∷◌, None, Some, drop, eqb, ◌==◌, if◌then◌else◌}
 use Rattle.std.specs.List.{starts_with}
 use Rattle.std.specs.declared.option.Option.{Option}

@@ -1,4 +1,5 @@
-//! The outside as the program sees it: sources and sinks of bytes, key files and entropy, which count their faults, and the lines of a source.
+//! The outside as the program sees it: sources and sinks of bytes, key files and entropy, which count their
+//! faults, and the lines of a source.
 #![tactic(auto)]
 
 mod calls;

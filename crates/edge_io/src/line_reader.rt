@@ -53,7 +53,8 @@ impl Model for LineReader {
 
     ghost view = { λ reader. drop reader.start reader.held.items };
 
-    ghost invariant = { λ reader. (reader.start ≤ vec_len reader.held) × (CAPACITY ≤ vec_capacity reader.held) × (vec_len reader.block ≡ BLOCK) };
+    ghost invariant = { λ reader. (reader.start ≤ vec_len reader.held) × (CAPACITY ≤ vec_capacity reader.held)
+        × (vec_len reader.block ≡ BLOCK) };
 }
 
 impl LineReader {

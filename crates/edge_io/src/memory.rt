@@ -56,7 +56,8 @@ impl Source for MemSource {
     fn read(&mut self, out: &mut [u8]) -> Result<usize, Failed>
         requires { 0 < length out.old }
         ensures within { IfOk result (λ count. count ≤ length out.new) }
-        ensures moved { IfOk result (λ count. Consumes (Some self.old.bytes) (Some self.new.bytes) (take count out.new)) }
+        ensures moved { IfOk result (λ count. Consumes (Some self.old.bytes) (Some self.new.bytes)
+            (take count out.new)) }
         ensures end { IfOk result (λ count. IfSome (Some self.old.bytes) (λ bytes. (count ≡ 0) ↔ (bytes ≡ []))) }
         ensures failed { OnErr result (StillTold (Some self.old.bytes) (Some self.new.bytes)) }
         ensures cause { HasCause self.old.faults self.new.faults result }
@@ -124,7 +125,8 @@ impl Sink for MemSink {
         requires { 0 < length piece.now }
         ensures some { IfOk result (λ count. 0 < count) }
         ensures within { IfOk result (λ count. count ≤ length piece.now) }
-        ensures appended { IfOk result (λ count. Appends (Some self.old.bytes) (Some self.new.bytes) (take count piece.now)) }
+        ensures appended { IfOk result
+            (λ count. Appends (Some self.old.bytes) (Some self.new.bytes) (take count piece.now)) }
         ensures failed { OnErr result (StillTold (Some self.old.bytes) (Some self.new.bytes)) }
         ensures cause { HasCause self.old.faults self.new.faults result }
 

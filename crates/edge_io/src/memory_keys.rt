@@ -60,7 +60,8 @@ impl KeyFiles for MemKeyFiles {
         ensures short { IfOk result (λ bytes. length bytes.items ≤ MAX_KEY_FILE) }
         ensures told { Some self.new.files ≡ Some self.old.files }
         ensures cause { FetchCounts self.old.faults self.new.faults result }
-        ensures listed { IfSome (next_listed (Some self.old.calls) (Some self.old.fails)) (λ fails. is_failed result ≡ fails) }
+        ensures listed { IfSome (next_listed (Some self.old.calls) (Some self.old.fails))
+            (λ fails. is_failed result ≡ fails) }
         ensures counted { Some self.new.calls ≡ option_map one_more (Some self.old.calls) }
         ensures failing { Some self.new.fails ≡ Some self.old.fails }
 
@@ -149,11 +150,13 @@ impl Entropy for MemEntropy {
 
     /// Fails at the listed calls and where fewer than 32 bytes are left, and at no other.
     fn fill(&mut self, out: &mut [u8; 32]) -> Result<(), Failed>
-        ensures moved { OnOk result (IfSome (Some self.old.bytes) (λ bytes. MovesNext bytes (Some self.new.bytes) out.new)) }
+        ensures moved { OnOk result (IfSome (Some self.old.bytes)
+            (λ bytes. MovesNext bytes (Some self.new.bytes) out.new)) }
         ensures failed { OnErr result (Some self.new.bytes ≡ Some self.old.bytes) }
         ensures untouched { OnErr result (out.new ≡ out.old) }
         ensures cause { HasCause self.old.faults self.new.faults result }
-        ensures fails { IfSome (fill_fails (Some self.old.bytes) (next_listed (Some self.old.calls) (Some self.old.fails)))
+        ensures fails { IfSome (fill_fails (Some self.old.bytes)
+            (next_listed (Some self.old.calls) (Some self.old.fails)))
             (λ fails. is_err result ≡ fails) }
         ensures counted { Some self.new.calls ≡ option_map one_more (Some self.old.calls) }
         ensures failing { Some self.new.fails ≡ Some self.old.fails }

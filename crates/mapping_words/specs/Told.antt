@@ -26,7 +26,8 @@ with_slot t slot now = record t { slots = slice_set t.slots slot now }
 
 -- open under the next generation, and not mounted
 abbrev pub opened : Told → ℕ → Told
-opened t slot = with_slot t slot (record { generation = (slot_at t slot).generation + 1; is_open = true; is_mounted = false })
+opened t slot =
+    with_slot t slot (record { generation = (slot_at t slot).generation + 1; is_open = true; is_mounted = false })
 
 abbrev pub with_mount : Told → ℕ → Bool → Told
 with_mount t slot is = with_slot t slot (record (slot_at t slot) { is_mounted = is })
@@ -36,7 +37,8 @@ closed t slot = with_slot t slot (record (slot_at t slot) { is_open = false })
 
 -- one more close was refused, of this slot by this word; the number of them stands still at the end of its 64 bits
 abbrev pub refused_close : Told → ℕ → ℕ → Told
-refused_close t slot word = record t { refused = min (t.refused + 1) (2 ^ 64 - 1); last = Some (record { slot = slot; word = word }) }
+refused_close t slot word =
+    record t { refused = min (t.refused + 1) (2 ^ 64 - 1); last = Some (record { slot = slot; word = word }) }
 
 -- the count of a slot that none but its mount uses
 abbrev pub mount_count : Slot → ℕ

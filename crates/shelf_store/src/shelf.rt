@@ -93,8 +93,8 @@ pub trait Shelf: Sized + Drop {
             → told self.now ≡ told other.now → IsTrue result };
 }
 
-/// Each arming lets exactly one call fail, of those of `put` and `get` behind it the one with the armed number, and this raises
-/// the count of failures by one: a law, which does nothing.
+/// Each arming lets exactly one call fail, of those of `put` and `get` behind it the one with the armed
+/// number, and this raises the count of failures by one: a law, which does nothing.
 pub fn each_arming_lets_one_call_fail()
     ensures due { (s : ShelfState) (number calls : ℕ) → s.armed ≡ Some number
         → is_due (after_calls calls s).armed ≡ (calls == number) }

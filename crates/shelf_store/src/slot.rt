@@ -58,7 +58,8 @@ impl Slot {
     /// Changes a held byte by exclusive or with `mask`. On an error all is as before.
     pub fn alter(&mut self, alloc: Global, at: usize, mask: u8) -> Result<(), NoMemory>
         requires { at < length self.old.held }
-        ensures ok { OnOk result (self.new ≡ record self.old { held = slice_set self.old.held at (bit_xor (slice_index self.old.held at) mask) }) }
+        ensures ok { OnOk result (self.new
+            ≡ record self.old { held = slice_set self.old.held at (bit_xor (slice_index self.old.held at) mask) }) }
         ensures err { OnErr result (self.new ≡ self.old) }
         ensures placed { self.new.placed ≡ self.old.placed }
         ensures length { length self.new.held ≡ length self.old.held }

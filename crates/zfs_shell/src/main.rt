@@ -1,5 +1,5 @@
-//! The shell over the real outside: the words of the command line, standard input and output, key files by path, and the
-//! system's random bytes.
+//! The shell over the real outside: the words of the command line, standard input and output, key files by
+//! path, and the system's random bytes.
 #![tactic(auto)]
 
 ghost use Rattle.std.specs.Prelude.{◌≡◌, [], IfOk};
