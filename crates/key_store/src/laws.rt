@@ -16,4 +16,6 @@ pub fn commands_keep_soundness()
 /// The state of a keystore is sound.
 pub fn states_are_sound(state: &KeyState)
     ensures { Sound ciphers state.now }
-{}
+{
+    let _tree = &state.tree;
+}
