@@ -87,9 +87,9 @@ module _ (c : Ciphers) (F : List ℕ → Type 0) (opened_form : (stored key : Li
   written_form owner root records stored told all =
       All-map (λ (entry : ℕ × Stored). F entry.1.wrapped) (λ (entry : ℕ × Stored). (entry.0, cond (is_same root (owner entry.0)) (with_record records entry) entry.1)) stored
       (λ k d within. by (get_or stored k d) (is_same root (owner (get_or stored k d).0)) (all k d within)) where
-    by : (entry : ℕ × Stored) (b : Bool) → F entry.1.wrapped → F (cond b (with_record records entry) entry.1).wrapped
-    by entry true is = chosen_form records entry.0 entry.1.wrapped told is
-    by entry false is = is
+        by : (entry : ℕ × Stored) (b : Bool) → F entry.1.wrapped → F (cond b (with_record records entry) entry.1).wrapped
+        by entry true is = chosen_form records entry.0 entry.1.wrapped told is
+        by entry false is = is
 
   abbrev InForm : Plain → Type 0
   InForm p = All (λ entry. F entry.1.wrapped) p.wrapped

@@ -39,14 +39,15 @@ impl KeyView for KeyState {
 }
 
 impl KeyState {
-    /// Carries out a plan that was made of this very state: the dataset is a root with the plan's properties and its key is
-    /// loaded, or it is no root and has none; and the families of the plan have the plan's records. No memory is taken.
+    /// Carries out a plan that was made of this very state: the dataset is a root with the plan's properties
+    /// and its key is loaded, or it is no root and has none; and the families of the plan have the plan's
+    /// records. No memory is taken.
     pub fn apply_change(&mut self, plan: ChangePlan)
         requires planned { IsPlanned ciphers self.old plan }
         ensures { self.new ≡ planned self.old plan }
     {
-        set_root(&mut self.roots, plan.root, plan.props);
         set_key(&mut self.loaded, plan.root, plan.key);
+        set_root(&mut self.roots, plan.root, plan.props);
         write_records(self.records.as_mut_slice(), plan.wrapped.as_slice());
     }
 }
@@ -113,10 +114,7 @@ fn bytes_after(written: &[(u32, RecordBytes)], family: u32, own: RecordBytes) ->
 }
 
 /// What is written for a family, of several the first.
-fn written_for<'a>(
-    written: &'a [(u32, RecordBytes)],
-    family: u32,
-) -> Option<&'a (u32, RecordBytes)>
+fn written_for<'a>(written: &'a [(u32, RecordBytes)], family: u32) -> Option<&'a (u32, RecordBytes)>
     ensures { option_copied result ≡ find (λ entry. entry.0 == family) written.now }
 {
     written.iter().find(|entry| entry.0 == family)

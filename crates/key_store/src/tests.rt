@@ -5,9 +5,7 @@ ghost use Rattle.encryption_roots.specs.RecordSize.{IsRecordSize};
 use super::*;
 use crate::state::FamilyRecord;
 use dataset_tree::{Format, MaterialFault, RecordBytes, Refusal, SetName, Stop};
-use encryption_roots::{
-    Fetched, KeyCmd, LineKit, Material, Options, Prop, SeedGot, put_at_id,
-};
+use encryption_roots::{Fetched, KeyCmd, LineKit, Material, Options, Prop, SeedGot, put_at_id};
 use std::alloc::Global;
 use std::test::Fail;
 use wrapped_keys::KeyRecord;
@@ -147,6 +145,9 @@ fn a_damaged_record_is_named(rt: HostRuntime) -> Result<(), Fail> {
     state.unload(&name)?;
     state.damage(2)?;
     let loaded = state.load(&name, false, &kit);
-    assert_eq!(rt; loaded, Err(Stop::Refused(Refusal::WrongKey { dataset: 2 })));
+    assert_eq!(rt;
+        loaded,
+        Err(Stop::Refused(Refusal::WrongKey { dataset: 2 }))
+    );
     Ok(())
 }
