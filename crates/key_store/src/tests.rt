@@ -111,18 +111,16 @@ fn a_plain_dataset_has_no_key(rt: HostRuntime) -> Result<(), Fail> {
     Ok(())
 }
 
-impl KeyState {
-    // Turns a bit in the sealed text of a family's record, where no key is loaded.
-    fn damage(&mut self, family: u32) -> Result<(), Fail> {
-        let stored = *self.record(family).ok_or("no record")?;
-        let wrapped = damaged(&stored.wrapped)?;
-        if KeyRecord::from_bytes(&wrapped).is_none() || !self.loaded.is_empty() {
-            return Err(Fail::from("no damage"));
-        }
-        let block = stored.block;
-        put_at_id(&mut self.records, family, FamilyRecord { wrapped, block })?;
-        Ok(())
+// Turns a bit in the sealed text of a family's record, where no key is loaded.
+fn damage(state: &mut KeyState, family: u32) -> Result<(), Fail> {
+    let stored = *state.record(family).ok_or("no record")?;
+    let wrapped = damaged(&stored.wrapped)?;
+    if KeyRecord::from_bytes(&wrapped).is_none() || !state.loaded.is_empty() {
+        return Err(Fail::from("no damage"));
     }
+    let block = stored.block;
+    put_at_id(&mut state.records, family, FamilyRecord { wrapped, block })?;
+    Ok(())
 }
 
 fn damaged(stored: &RecordBytes) -> Result<RecordBytes, Fail> {
@@ -143,7 +141,7 @@ fn a_damaged_record_is_named(rt: HostRuntime) -> Result<(), Fail> {
     state.create(&heir, &Options::none(), &kit)?;
     let name = tank(alloc)?;
     state.unload(&name)?;
-    state.damage(2)?;
+    damage(&mut state, 2)?;
     let loaded = state.load(&name, false, &kit);
     assert_eq!(rt;
         loaded,
