@@ -3,3 +3,4 @@ pub mod LoadLemmas
 pub mod RoomLemmas
 pub mod CreateLemmas
 pub mod PlanLemmas
+pub mod DamageLemmas

@@ -1,6 +1,7 @@
 // The commands of the keystore, by calls: what no script shows.
-ghost use Rattle.std.specs.Prelude.{IfOk, IfSome};
+ghost use Rattle.std.specs.Prelude.{◌≡◌, IfOk, IfSome, is_some};
 ghost use Rattle.encryption_roots.specs.RecordSize.{IsRecordSize};
+ghost use Rattle.wrapped_keys.specs.Stored.{parsed_record};
 
 use super::*;
 use crate::state::FamilyRecord;
@@ -113,14 +114,22 @@ fn a_plain_dataset_has_no_key(rt: HostRuntime) -> Result<(), Fail> {
 
 // Turns a bit in the sealed text of a family's record, where no key is loaded.
 fn damage(state: &mut KeyState, family: u32) -> Result<(), Fail> {
-    let stored = *state.record(family).ok_or("no record")?;
+    let Some(stored) = state.record(family) else {
+        return Err(Fail::from("no record"));
+    };
+    let block = stored.block;
     let wrapped = damaged(&stored.wrapped)?;
-    if KeyRecord::from_bytes(&wrapped).is_none() || !state.loaded.is_empty() {
+    if !is_in_form(&wrapped) || !state.loaded.is_empty() {
         return Err(Fail::from("no damage"));
     }
-    let block = stored.block;
     put_at_id(&mut state.records, family, FamilyRecord { wrapped, block })?;
     Ok(())
+}
+
+fn is_in_form(wrapped: &RecordBytes) -> bool
+    ensures { result ≡ is_some (parsed_record wrapped.now) }
+{
+    KeyRecord::from_bytes(wrapped).is_some()
 }
 
 fn damaged(stored: &RecordBytes) -> Result<RecordBytes, Fail> {
