@@ -34,7 +34,8 @@ use Rattle.key_machine.proofs.RekeyRecords.{rewrapped_ids}
 use Rattle.key_machine.proofs.SoundLemmas.{refused_step, refused_by_material}
 use Rattle.change_key.specs.Keys.{unless_told_wrong, present_key, new_key_of, first_fault, IsNewKey, StopsAt}
 use Rattle.change_key.specs.declared.new_key.NewKey.{NewKey}
-use Rattle.change_key.specs.Plans.{stepped, AnswersPlan, IsPlanOf, KeepsMasters, IsToldChange, OpensPresent}
+use Rattle.key_ciphers.specs.Calls.{step_by, AnswersDone}
+use Rattle.change_key.specs.Plans.{IsPlanOf, KeepsMasters, IsToldChange, OpensPresent}
 use Rattle.change_key.specs.Records.{opened_in, anew, numbered}
 use Rattle.change_key.proofs.FamilyRecords.{entries_found, entries_open, owned_once_root, owned_alike, written_are}
 use Rattle.change_key.proofs.KeyLemmas.{present_key_is}
@@ -97,10 +98,10 @@ module _ (c : Ciphers) (are : AreSound c) (p : Plain) (s : Sound c p) (name : Li
   present_is = present_key_is c p id load_first kit.old_key is.key owner.0 owner.1
 
   refuses : (why : Refusal) → first_refusal (change_material (told_anew (old_wrong c p id load_first) (told_changed c p id opts load_first) old_of new_of (seed_of kit.seed))) ≡ Some why
-      → stepped c p change kit ≡ refused p why
+      → step_by c p change kit ≡ refused p why
   refuses why material = refused_by_material p change facts why state (ap (λ (t : Told). first_refusal (change_material t)) told_is ∙ material)
 
-  pub old_stops : (why : Refusal) → present_key c p id kit.old_key ≡ Err why → stepped c p change kit ≡ refused p why
+  pub old_stops : (why : Refusal) → present_key c p id kit.old_key ≡ Err why → step_by c p change kit ≡ refused p why
   old_stops why failed = refuses why
       (old_refuses (old_wrong c p id load_first) (told_changed c p id opts load_first) (λ old new seed. refl) old_of new_of (seed_of kit.seed) why (sym present_is ∙ failed))
 
@@ -111,7 +112,7 @@ module _ (c : Ciphers) (are : AreSound c) (p : Plain) (s : Sound c p) (name : Li
     pub opens : OpensPresent c p id old
     opens = (is_old_key c p s id is.first load_first kit.old_key old is.key had.0 had.1).opens
 
-    pub new_stops : (why : Refusal) → first_fault new_of (seed_of kit.seed) ≡ Some why → stepped c p change kit ≡ refused p why
+    pub new_stops : (why : Refusal) → first_fault new_of (seed_of kit.seed) ≡ Some why → step_by c p change kit ≡ refused p why
     new_stops why failed = refuses why
         (ap (λ (o : Result (List ℕ) Refusal). first_refusal (change_material (told_anew (old_wrong c p id load_first) (told_changed c p id opts load_first) o new_of (seed_of kit.seed)))) had.0
         ∙ new_refuses (old_wrong c p id load_first) (told_changed c p id opts load_first) (λ old new seed. refl) old new_of (seed_of kit.seed) why had.1 failed)
@@ -138,10 +139,10 @@ module _ (c : Ciphers) (are : AreSound c) (p : Plain) (s : Sound c p) (name : Li
         material = ap (λ (t : Told). first_refusal (change_material t)) facts_are ∙ ap (λ (o : Option ℕ). first_refusal (option_map (λ dataset. WrongKey dataset) o ∷ None ∷ [])) had.1;
       }
 
-      step : stepped c p change kit ≡ change_done p opts facts (Some id)
+      step : step_by c p change kit ≡ change_done p opts facts (Some id)
       step = change_step p name opts load_first facts id at accepted
 
-      pub done : (stepped c p change kit).reply ≡ Done
+      pub done : (step_by c p change kit).reply ≡ Done
       done = ap (λ (st : Stepped). st.reply) step
 
       no_other : (family : ℕ) → is_same id (owner_of (with_own_root p id opts salt) family) ≡ false → at_id family records ≡ None
@@ -155,7 +156,7 @@ module _ (c : Ciphers) (are : AreSound c) (p : Plain) (s : Sound c p) (name : Li
       as_changed = ap (λ (w : List (ℕ × Stored)). record (with_own_root p id opts salt) { wrapped = w; loaded = with_id id of_kit.key p.loaded })
           (set_by_ids (owner_of (with_own_root p id opts salt)) id records p.wrapped no_other)
 
-      plan_is : planned p plan ≡ (stepped c p change kit).state
+      plan_is : planned p plan ≡ (step_by c p change kit).state
       plan_is =
           planned_is p plan id (Some (changed_props own opts salt)) (Some of_kit.key) records of_kit.root of_kit.props of_kit.loaded of_kit.records
           ∙ as_changed ∙ ap (λ (t : Told). changed p id opts t) (sym facts_are) ∙ sym (ap (λ (st : Stepped). st.state) step)
@@ -194,10 +195,10 @@ module _ (c : Ciphers) (are : AreSound c) (p : Plain) (s : Sound c p) (name : Li
       }
 
     -- the answers of the call
-    pub answers : (result : Result ChangePlan Stop) → IfOk result (IsToldChange c p id opts kit old) → StopsAt result (first_fault new_of (seed_of kit.seed)) → AnswersPlan result (stepped c p change kit).reply
+    pub answers : (result : Result ChangePlan Stop) → IfOk result (IsToldChange c p id opts kit old) → StopsAt result (first_fault new_of (seed_of kit.seed)) → AnswersDone result (step_by c p change kit).reply
     answers (Ok plan) of_kit stops = done plan of_kit
     answers (Err stop) of_kit stops =
-        answers_fault stop (first_fault new_of (seed_of kit.seed)) (stepped c p change kit).reply stops (λ why failed. ap (λ (st : Stepped). st.reply) (new_stops why failed))
+        answers_fault stop (first_fault new_of (seed_of kit.seed)) (step_by c p change kit).reply stops (λ why failed. ap (λ (st : Stepped). st.reply) (new_stops why failed))
 
     pub plans : (result : Result ChangePlan Stop) → IfOk result (IsToldChange c p id opts kit old) → IfOk result (λ plan. IsPlanOf c p change kit (old_key c p plan.root load_first kit.old_key) plan.key plan)
     plans (Ok plan) of_kit = is_plan plan of_kit

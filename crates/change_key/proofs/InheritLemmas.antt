@@ -43,7 +43,8 @@ use Rattle.key_machine.proofs.RekeyLaws.{inherit_step, inherit_keeps_masters}
 use Rattle.key_machine.proofs.RekeyRecords.{rewrapped_ids}
 use Rattle.key_machine.proofs.SoundLemmas.{refused_by_material}
 use Rattle.change_key.specs.Keys.{unless_told_wrong, root_key, loaded_above, StopsAt}
-use Rattle.change_key.specs.Plans.{stepped, AnswersPlan, IsPlanOf, KeepsMasters, IsToldInherit, OpensPresent}
+use Rattle.key_ciphers.specs.Calls.{step_by, AnswersDone}
+use Rattle.change_key.specs.Plans.{IsPlanOf, KeepsMasters, IsToldInherit, OpensPresent}
 use Rattle.change_key.specs.Records.{opened_in, anew as by_number, numbered}
 use Rattle.change_key.proofs.FamilyRecords.{entries_found, entries_open, owner_named, written_are}
 use Rattle.change_key.proofs.KeyLemmas.{root_key_is}
@@ -141,11 +142,11 @@ module _ (c : Ciphers) (are : AreSound c) (p : Plain) (s : Sound c p) (name : Li
   present_is = root_key_is c p id load_first kit.old_key is.key id owner
 
   refuses : (why : Refusal) → refusal_by has_above (told_anew (old_wrong c p id load_first) (told_inherited c p id load_first) old_of (Ok (key_above p id)) (seed_of kit.seed)) ≡ Some why
-      → stepped c p inherit kit ≡ refused p why
+      → step_by c p inherit kit ≡ refused p why
   refuses why material = refused_by_material p inherit facts why state (ap (λ (t : Told). refusal_by has_above t) told_is ∙ material)
 
   pub old_stops : ((props : Props) (first : Refusal) → key_of c props.format props.iters props.salt kit.old_key ≡ Err first → IsApart first) → (why : Refusal) → root_key c p id kit.old_key ≡ Err why
-      → stepped c p inherit kit ≡ refused p why
+      → step_by c p inherit kit ≡ refused p why
   old_stops apart why failed =
       refuses why (old_refuses c p id load_first has_above old_of (key_above p id) kit.seed why (λ first is_first. old_fault_apart c p id load_first kit.old_key first apart is_first) (sym present_is ∙ failed))
 
@@ -166,12 +167,12 @@ module _ (c : Ciphers) (are : AreSound c) (p : Plain) (s : Sound c p) (name : Li
     pub opens : OpensPresent c p id old
     opens = (is_old_key c p s id is.first load_first kit.old_key old is.key had.0 had.1).opens
 
-    by_rest : (why : Refusal) → first_refusal ((if has_above then None else Some KeyUnavailable) ∷ (anew c p id load_first has_above (Ok old) (key_above p id) kit.seed).fault ∷ []) ≡ Some why → stepped c p inherit kit ≡ refused p why
+    by_rest : (why : Refusal) → first_refusal ((if has_above then None else Some KeyUnavailable) ∷ (anew c p id load_first has_above (Ok old) (key_above p id) kit.seed).fault ∷ []) ≡ Some why → step_by c p inherit kit ≡ refused p why
     by_rest why rest = refuses why
         (ap (λ (o : Result (List ℕ) Refusal). refusal_by has_above (told_anew (old_wrong c p id load_first) (told_inherited c p id load_first) o (Ok (key_above p id)) (seed_of kit.seed))) had.0
         ∙ rest_of c p id load_first has_above old (key_above p id) kit.seed had.1 ∙ rest)
 
-    pub above_stops : loaded_above p id ≡ None → stepped c p inherit kit ≡ refused p KeyUnavailable
+    pub above_stops : loaded_above p id ≡ None → step_by c p inherit kit ≡ refused p KeyUnavailable
     above_stops none =
         let not_above : has_above ≡ false = above_is ∙ ap (λ (k : Option (List ℕ)). is_some k) none in
         by_rest KeyUnavailable (ap (λ b. first_refusal ((if b then None else Some KeyUnavailable) ∷ (anew c p id load_first has_above (Ok old) (key_above p id) kit.seed).fault ∷ [])) not_above)
@@ -183,7 +184,7 @@ module _ (c : Ciphers) (are : AreSound c) (p : Plain) (s : Sound c p) (name : Li
       new_is : key_above p id ≡ new
       new_is = ap (λ (k : Option (List ℕ)). unwrap_or k no_key) there
 
-      pub seed_stops : (why : Refusal) → seed_of kit.seed ≡ Err why → stepped c p inherit kit ≡ refused p why
+      pub seed_stops : (why : Refusal) → seed_of kit.seed ≡ Err why → step_by c p inherit kit ≡ refused p why
       seed_stops why failed = by_rest why
           (ap (λ b. first_refusal ((if b then None else Some KeyUnavailable) ∷ (anew c p id load_first has_above (Ok old) (key_above p id) kit.seed).fault ∷ [])) is_above
           ∙ ap (λ (f : Option Refusal). first_refusal (None ∷ f ∷ [])) (fault_is c p id load_first old (key_above p id) (seed_of kit.seed) why failed))
@@ -209,10 +210,10 @@ module _ (c : Ciphers) (are : AreSound c) (p : Plain) (s : Sound c p) (name : Li
               ∙ ap (λ b. first_refusal (None ∷ None ∷ (if b then None else Some KeyUnavailable) ∷ None ∷ [])) is_above;
         }
 
-        step : stepped c p inherit kit ≡ inherit_done p facts (Some id)
+        step : step_by c p inherit kit ≡ inherit_done p facts (Some id)
         step = inherit_step p name load_first facts id at accepted
 
-        pub done : (stepped c p inherit kit).reply ≡ Done
+        pub done : (step_by c p inherit kit).reply ≡ Done
         done = ap (λ (st : Stepped). st.reply) step
 
         no_other : (family : ℕ) → is_same id (owner_of p family) ≡ false → at_id family records ≡ None
@@ -221,7 +222,7 @@ module _ (c : Ciphers) (are : AreSound c) (p : Plain) (s : Sound c p) (name : Li
         as_inherited : plan_state p id None None records ≡ inherited p id tells
         as_inherited = ap (λ (w : List (ℕ × Stored)). record p { roots = without_id id p.roots; wrapped = w; loaded = without_id id p.loaded }) (set_by_ids (owner_of p) id records p.wrapped no_other)
 
-        plan_is : planned p plan ≡ (stepped c p inherit kit).state
+        plan_is : planned p plan ≡ (step_by c p inherit kit).state
         plan_is =
             planned_is p plan id None None records of_kit.root of_kit.props of_kit.loaded of_kit.records
             ∙ as_inherited ∙ ap (λ (t : Told). inherited p id t) (sym facts_are) ∙ sym (ap (λ (st : Stepped). st.state) step)
@@ -259,10 +260,10 @@ module _ (c : Ciphers) (are : AreSound c) (p : Plain) (s : Sound c p) (name : Li
         }
 
       -- the answers of the call
-      pub answers : (result : Result ChangePlan Stop) → IfOk result (IsToldInherit c p id kit old new) → StopsAt result (result_err (seed_of kit.seed)) → AnswersPlan result (stepped c p inherit kit).reply
+      pub answers : (result : Result ChangePlan Stop) → IfOk result (IsToldInherit c p id kit old new) → StopsAt result (result_err (seed_of kit.seed)) → AnswersDone result (step_by c p inherit kit).reply
       answers (Ok plan) of_kit stops = done plan of_kit
       answers (Err stop) of_kit stops =
-          answers_fault stop (result_err (seed_of kit.seed)) (stepped c p inherit kit).reply stops (λ why failed. ap (λ (st : Stepped). st.reply) (seed_stops why (failed_seed (seed_of kit.seed) why failed)))
+          answers_fault stop (result_err (seed_of kit.seed)) (step_by c p inherit kit).reply stops (λ why failed. ap (λ (st : Stepped). st.reply) (seed_stops why (failed_seed (seed_of kit.seed) why failed)))
 
       pub plans : (result : Result ChangePlan Stop) → IfOk result (IsToldInherit c p id kit old new) → IfOk result (λ plan. IsPlanOf c p inherit kit (old_key c p plan.root load_first kit.old_key) (loaded_above p plan.root) plan)
       plans (Ok plan) of_kit = is_plan plan of_kit

@@ -27,7 +27,8 @@ use Rattle.key_machine.specs.Rekey.{present_props, present_key as loaded_key, fe
 use Rattle.key_machine.specs.Sound.{SoundTree}
 use Rattle.key_machine.specs.Told.{no_key, key_of, seed_of}
 use Rattle.key_machine.proofs.KeyLists.{each_found}
-use Rattle.change_key.specs.Keys.{unless_wrong, unless_told_wrong, tested_key, root_key, root_key_by, present_key, key_of_owner, new_key_of, unless_fault, first_fault}
+use Rattle.change_key.specs.Keys.{unless_wrong, unless_told_wrong, tested_key, root_key, root_key_by, present_key, key_of_owner, new_key_of, first_fault}
+use Rattle.key_ciphers.specs.Calls.{unless_fault}
 use Rattle.change_key.specs.Records.{opens_in}
 use Rattle.change_key.proofs.FamiliesLemmas.{families_are}
 use Rattle.change_key.proofs.RecordLemmas.{AllFound, first_wrong_by_ids}

@@ -19,7 +19,7 @@ use Rattle.key_machine.proofs.KeyLists.{at_id-dropped}
 use Rattle.key_machine.proofs.RekeyRecords.{there_alike}
 use Rattle.change_key.specs.declared.new_key.NewKey.{NewKey}
 use Rattle.change_key.specs.Keys.{unless_wrong, unless_told_wrong, StopsAt}
-use Rattle.change_key.specs.Plans.{AnswersPlan}
+use Rattle.key_ciphers.specs.Calls.{AnswersDone}
 
 -- ---- the planned state by a plan's parts
 
@@ -50,11 +50,11 @@ no_record owns records stored same at other =
 
 -- ---- answers
 
-pub answers_gives : (stop : Stop) (outcome : Result (List ℕ) Refusal) (reply : Reply) → Gives {T = List ℕ} (Err stop) outcome → ((why : Refusal) → outcome ≡ Err why → reply ≡ Refused why) → AnswersPlan {T = ChangePlan} (Err stop) reply
+pub answers_gives : (stop : Stop) (outcome : Result (List ℕ) Refusal) (reply : Reply) → Gives {T = List ℕ} (Err stop) outcome → ((why : Refusal) → outcome ≡ Err why → reply ≡ Refused why) → AnswersDone {T = ChangePlan} (Err stop) reply
 answers_gives (stops.Refused why) outcome reply gives each = each why gives
 answers_gives stops.NoMemory outcome reply gives each = tt
 
-pub answers_fault : (stop : Stop) (fault : Option Refusal) (reply : Reply) → StopsAt {T = ChangePlan} (Err stop) fault → ((why : Refusal) → fault ≡ Some why → reply ≡ Refused why) → AnswersPlan {T = ChangePlan} (Err stop) reply
+pub answers_fault : (stop : Stop) (fault : Option Refusal) (reply : Reply) → StopsAt {T = ChangePlan} (Err stop) fault → ((why : Refusal) → fault ≡ Some why → reply ≡ Refused why) → AnswersDone {T = ChangePlan} (Err stop) reply
 answers_fault (stops.Refused why) fault reply stopped each = each why stopped
 answers_fault stops.NoMemory fault reply stopped each = tt
 

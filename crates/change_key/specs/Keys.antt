@@ -73,11 +73,6 @@ new_key_of c own opts kit = key_of c (changed_format own opts) (changed_iters ow
 abbrev pub salt_for : Ciphers → Format → (seed : List ℕ) → ℕ
 salt_for c format seed = if is_passphrase (Some format) then little_endian_value (c.seed_bytes seed salt_place 8) else 0
 
--- what was had, where nothing before it has a fault
-abbrev pub unless_fault : Option Why → Result (List ℕ) Why → Result (List ℕ) Why
-unless_fault None had = had
-unless_fault (Some why) had = Err why
-
 abbrev pub first_fault : (key seed : Result (List ℕ) Why) → Option Why
 first_fault (Err why) seed = Some why
 first_fault (Ok key) (Err why) = Some why

@@ -4,8 +4,6 @@ use Rattle.std.specs.declared.option.Option.{Option}
 use Rattle.std.specs.declared.option.Option.TheVariants.{Some, None}
 use Rattle.std.specs.List.{All}
 use Rattle.dataset_tree.specs.declared.refusal.Refusal.{Refusal as Why}
-use Rattle.dataset_tree.specs.declared.refusal.Stop.{Stop}
-use Rattle.dataset_tree.specs.declared.refusal.Stop.TheVariants as stops
 use Rattle.encryption_roots.specs.declared.command.KeyCmd.{KeyCmd}
 use Rattle.encryption_roots.specs.declared.kit.LineKit.{LineKit}
 use Rattle.encryption_roots.specs.declared.props.Options.{Options}
@@ -17,23 +15,12 @@ use Rattle.key_machine.specs.Fair.{families_written}
 use Rattle.key_machine.specs.Plain.{Plain, Ciphers, owner_of, owned, has_key, mkey}
 use Rattle.key_machine.specs.Plan.{planned}
 use Rattle.key_machine.specs.Rekey.{rewrapped}
-use Rattle.key_machine.specs.Reply.{Stepped, Reply, Done, Refused}
 use Rattle.key_machine.specs.Sound.{OpensAt}
-use Rattle.key_machine.specs.Step.{told, target, key_step, IsAccepted}
+use Rattle.key_machine.specs.Step.{told, target, IsAccepted}
 use Rattle.key_machine.specs.Told.{seed_of}
+use Rattle.key_ciphers.specs.Calls.{step_by}
 use Rattle.change_key.specs.Keys.{new_key_of}
 use Rattle.change_key.specs.Records.{opened_in}
-
--- the step of a command under what its kit tells
-abbrev pub stepped : Ciphers → Plain → KeyCmd → LineKit → Stepped
-stepped c p command kit = key_step p command (told c p command kit)
-
--- A call that plans gives a plan exactly where the step is done, and is refused exactly as the step
--- is, want of memory apart.
-abbrev pub AnswersPlan : {T : Type 0} → Result T Stop → Reply → Type 0
-AnswersPlan (Ok _) reply = reply ≡ Done
-AnswersPlan (Err (stops.Refused why)) reply = reply ≡ Refused why
-AnswersPlan (Err stops.NoMemory) reply = Unit {0}
 
 -- The present key was had, loaded or fetched for this line, and there is a new key. Under that each
 -- record of these opens, and to the master key to which the family's stored record opens under the
@@ -52,7 +39,7 @@ pub record KeepsMasters (c : Ciphers) (p : Plain) (present : Result (List ℕ) W
 -- was loaded.
 pub record IsPlanOf (c : Ciphers) (p : Plain) (command : KeyCmd) (kit : LineKit) (present : Result (List ℕ) Why) (new : Option (List ℕ)) (plan : ChangePlan) : Type 0 where
   pub accepted : IsAccepted p command (told c p command kit)
-  pub state : planned p plan ≡ (stepped c p command kit).state
+  pub state : planned p plan ≡ (step_by c p command kit).state
   pub root : target p command ≡ Some plan.root
   pub families : map (λ entry. entry.0) plan.wrapped.items ≡ families_written p command
   pub masters : KeepsMasters c p present new plan.wrapped.items

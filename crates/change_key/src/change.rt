@@ -1,35 +1,27 @@
 // Plans of `change-key`.
-ghost use Rattle.std.specs.Prelude.{◌≡◌, ◌&&◌, not, false, true, Some, None, is_some, IfOk};
-ghost use Rattle.std.specs.Option.{option_copied, option_map};
+ghost use Rattle.std.specs.Prelude.{◌≡◌, false, IfOk};
 ghost use Rattle.dataset_tree.specs.Refusal.{Gives};
 ghost use Rattle.encryption_roots.specs.ById.{at_id};
 ghost use Rattle.encryption_roots.specs.declared.command.KeyCmd.TheVariants as commands;
-ghost use Rattle.key_machine.specs.Change.{change_cases, are_bad_changes, own_props};
 ghost use Rattle.key_machine.specs.Create.{are_bad_iterations};
-ghost use Rattle.key_machine.specs.Plain.{has_key, owner_of};
 ghost use Rattle.key_machine.specs.Plan.{IsPlanned};
-ghost use Rattle.key_machine.specs.Refusals.{first_of};
 ghost use Rattle.key_machine.specs.Rekey.{old_key};
 ghost use Rattle.key_machine.specs.Sound.{Sound, IsEncrypted};
 ghost use Rattle.key_machine.specs.Told.{seed_of};
 ghost use Rattle.key_ciphers.specs.Ciphers.{ciphers};
 ghost use Rattle.change_key.specs.Keys.{StopsAt, first_fault, new_key_of, present_key};
-ghost use Rattle.change_key.specs.Plans.{stepped, AnswersPlan, IsPlanOf, IsToldChange, OpensPresent};
+ghost use Rattle.key_ciphers.specs.Calls.{stepped, AnswersDone};
+ghost use Rattle.change_key.specs.Plans.{IsPlanOf, IsToldChange, OpensPresent};
 
-use crate::lookup::{has_key_row, is_clone, is_encrypted, row_named};
-use crate::new_key::{changed_format, is_passphrase, new_key};
+use crate::new_key::new_key;
 use crate::present::root_key;
 use crate::records::{families_once_root, rewrapped};
-use dataset_tree::{Refusal, Row, SetName, Stop};
-use encryption_roots::{Fetched, LineKit, Options, Props, owner_of};
+use dataset_tree::{SetName, Stop};
+use encryption_roots::{Fetched, LineKit, Options, owner_of};
+use key_ciphers::change_refusal;
 use key_machine::{ChangePlan, KeyView};
 use salt_rotation::SeedWords;
 use std::alloc::Global;
-
-/// The fewest and the most iterations of PBKDF2.
-const MIN_ITERATIONS: u64 = 100_000;
-
-const MAX_ITERATIONS: u64 = 10_000_000;
 
 /// Plans `change-key`: the dataset becomes a root, or stays one, with a new wrapping key, and the
 /// records of the families that it then owns stand under that key, with the same master keys. The
@@ -51,8 +43,8 @@ pub fn plan_change<V: KeyView>(
     kit: &LineKit,
 ) -> Result<ChangePlan, Stop>
     requires sound { Sound ciphers (V.shows state.now) }
-    ensures reply { AnswersPlan result
-        (stepped ciphers (V.shows state.now)
+    ensures reply { AnswersDone result
+        (stepped (V.shows state.now)
         (commands.Change name.now opts.now load_first) kit.now).reply }
     ensures plan { IfOk result (λ plan. IsPlanOf ciphers (V.shows state.now)
         (commands.Change name.now opts.now load_first) kit.now
@@ -70,64 +62,6 @@ pub fn plan_change<V: KeyView>(
         Err(stop) => return Err(stop),
     };
     change_with(alloc, state, id, opts, kit, &old)
-}
-
-/// Why the state refuses a change.
-fn change_refusal<V: KeyView>(
-    state: &V,
-    name: &SetName,
-    opts: &Options,
-    load_first: bool,
-) -> Option<Refusal>
-    ensures { result ≡ first_of (change_cases (V.shows state.now) name.now opts.now load_first) }
-{
-    let row = row_named(state.tree().rows(), name.as_bytes());
-    if row.is_none() {
-        return Some(Refusal::NoSuch);
-    }
-    if !is_encrypted(row) {
-        return Some(Refusal::NotEncrypted);
-    }
-    if is_clone(row) {
-        return Some(Refusal::IsClone);
-    }
-    if are_bad_changes(own_props(state, row), opts) {
-        return Some(Refusal::BadOptions);
-    }
-    if are_bad_iterations(opts.iters) {
-        return Some(Refusal::BadIters);
-    }
-    if !load_first && !has_key_row(state, row) {
-        return Some(Refusal::KeyUnavailable);
-    }
-    None
-}
-
-/// The properties of the dataset itself, where it is a root.
-fn own_props<'a, V: KeyView>(state: &'a V, row: Option<&Row>) -> Option<&'a Props>
-    ensures { option_copied result ≡ own_props (V.shows state.now) (option_copied row.entry) }
-{
-    match row {
-        None => None,
-        Some(row) => state.roots().get(row.id),
-    }
-}
-
-/// Whether the options don't go with the dataset's own properties.
-fn are_bad_changes(own: Option<&Props>, opts: &Options) -> bool
-    ensures { result ≡ are_bad_changes (option_copied own.entry) opts.now }
-{
-    let unformatted = own.is_none() && opts.format.is_none();
-    unformatted || opts.iters.is_some() && !is_passphrase(changed_format(own, opts))
-}
-
-fn are_bad_iterations(iters: Option<u64>) -> bool
-    ensures { result ≡ are_bad_iterations iters }
-{
-    match iters {
-        None => false,
-        Some(iters) => iters < MIN_ITERATIONS || iters > MAX_ITERATIONS,
-    }
 }
 
 /// The key of the present owner: the loaded one, else the one that was fetched.

@@ -1,26 +1,22 @@
 // Plans of `change-key -i`.
 ghost use Rattle.std.specs.Prelude.{◌≡◌, Some, true, IfOk};
-ghost use Rattle.std.specs.Option.{option_copied};
 ghost use Rattle.std.specs.Result.{result_err};
 ghost use Rattle.encryption_roots.specs.declared.command.KeyCmd.TheVariants as commands;
-ghost use Rattle.key_machine.specs.Create.{has_parent_key};
-ghost use Rattle.key_machine.specs.Inherit.{inherit_cases, row_above};
 ghost use Rattle.key_machine.specs.Plain.{is_root};
 ghost use Rattle.key_machine.specs.Plan.{IsPlanned};
-ghost use Rattle.key_machine.specs.Refusals.{first_of, is_root_row};
 ghost use Rattle.key_machine.specs.Rekey.{old_key};
 ghost use Rattle.key_machine.specs.Sound.{Sound};
 ghost use Rattle.key_machine.specs.Told.{seed_of};
 ghost use Rattle.key_ciphers.specs.Ciphers.{ciphers};
 ghost use Rattle.change_key.specs.Keys.{StopsAt, loaded_above};
-ghost use Rattle.change_key.specs.Plans.{stepped, AnswersPlan, IsPlanOf, IsToldInherit, OpensPresent};
+ghost use Rattle.key_ciphers.specs.Calls.{stepped, AnswersDone};
+ghost use Rattle.change_key.specs.Plans.{IsPlanOf, IsToldInherit, OpensPresent};
 
-use crate::lookup::{has_key, has_key_row, is_clone, is_encrypted, row_named};
-use crate::new_key::seed_got;
 use crate::present::{loaded_above, root_key};
 use crate::records::rewrapped;
-use dataset_tree::{Refusal, Row, SetName, Stop};
+use dataset_tree::{Refusal, SetName, Stop};
 use encryption_roots::{LineKit, owned_families};
+use key_ciphers::{inherit_refusal, seed_got};
 use key_machine::{ChangePlan, KeyView};
 use salt_rotation::SeedWords;
 use std::alloc::Global;
@@ -43,8 +39,8 @@ pub fn plan_inherit<V: KeyView>(
     kit: &LineKit,
 ) -> Result<ChangePlan, Stop>
     requires sound { Sound ciphers (V.shows state.now) }
-    ensures reply { AnswersPlan result
-        (stepped ciphers (V.shows state.now)
+    ensures reply { AnswersDone result
+        (stepped (V.shows state.now)
         (commands.Inherit name.now load_first) kit.now).reply }
     ensures plan { IfOk result (λ plan. IsPlanOf ciphers (V.shows state.now)
         (commands.Inherit name.now load_first) kit.now
@@ -66,66 +62,6 @@ pub fn plan_inherit<V: KeyView>(
         return Err(Stop::Refused(Refusal::KeyUnavailable));
     };
     inherit_with(alloc, state, id, kit, &old, &new)
-}
-
-/// Why the state refuses an inherit.
-fn inherit_refusal<V: KeyView>(state: &V, name: &SetName, load_first: bool) -> Option<Refusal>
-    ensures { result ≡ first_of (inherit_cases (V.shows state.now) name.now load_first) }
-{
-    let row = row_named(state.tree().rows(), name.as_bytes());
-    if row.is_none() {
-        return Some(Refusal::NoSuch);
-    }
-    if !is_encrypted(row) {
-        return Some(Refusal::NotEncrypted);
-    }
-    if is_clone(row) {
-        return Some(Refusal::IsClone);
-    }
-    if !is_root_row(state, row) {
-        return Some(Refusal::NotRoot);
-    }
-    if !is_encrypted(row_above(state, row)) {
-        return Some(Refusal::NoEncryptedParent);
-    }
-    let has_own = has_key_row(state, row);
-    if !load_first && !has_own {
-        return Some(Refusal::KeyUnavailable);
-    }
-    // Where the present key is fetched, its faults come before a parent whose key isn't loaded.
-    if !(load_first && !has_own) && !has_parent_key(state, row_above(state, row)) {
-        return Some(Refusal::KeyUnavailable);
-    }
-    None
-}
-
-fn is_root_row<V: KeyView>(state: &V, row: Option<&Row>) -> bool
-    ensures { result ≡ is_root_row (V.shows state.now) (option_copied row.entry) }
-{
-    match row {
-        None => false,
-        Some(row) => state.roots().contains(row.id),
-    }
-}
-
-/// The dataset above.
-fn row_above<'a, V: KeyView>(state: &'a V, row: Option<&Row>) -> Option<&'a Row>
-    ensures { option_copied result ≡ row_above (V.shows state.now) (option_copied row.entry) }
-{
-    match row {
-        None => None,
-        Some(row) => state.tree().row(row.parent),
-    }
-}
-
-/// Whether the key that a parent uses is loaded.
-fn has_parent_key<V: KeyView>(state: &V, parent: Option<&Row>) -> bool
-    ensures { result ≡ has_parent_key (V.shows state.now) (option_copied parent.entry) }
-{
-    match parent {
-        None => false,
-        Some(parent) => has_key(state, parent.id),
-    }
 }
 
 /// The plan of an inherit that the state and the keys don't refuse.

@@ -8,7 +8,6 @@
 
 mod change;
 mod inherit;
-mod lookup;
 mod new_key;
 mod present;
 mod records;

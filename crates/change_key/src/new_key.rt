@@ -1,20 +1,17 @@
 // The key that a change gives to a dataset, and its properties.
 ghost use Rattle.std.specs.Prelude.{◌≡◌, ℕ, ◌≤◌, Ok, Some, IfOk, false};
 ghost use Rattle.std.specs.Option.{option_copied};
-ghost use Rattle.std.specs.Result.{result_err};
 ghost use Rattle.key_machine.specs.Change.{changed_format, changed_place, changed_iters, changed_salt, changed_props, kept_iters};
 ghost use Rattle.key_machine.specs.Create.{is_passphrase, are_bad_iterations};
 ghost use Rattle.key_machine.specs.Told.{key_of, seed_of};
 ghost use Rattle.key_ciphers.specs.Ciphers.{ciphers};
-ghost use Rattle.change_key.specs.Keys.{IsNewKey, StopsAt, new_key_of, first_fault, unless_fault, salt_for};
+ghost use Rattle.change_key.specs.Keys.{IsNewKey, StopsAt, new_key_of, first_fault, salt_for};
 
-use dataset_tree::{Format, NoMemory, Refusal, Stop};
-use encryption_roots::{LineKit, Location, Options, Props, SeedGot};
-use key_ciphers::{fetched_fault, fetched_key, seeded_salt};
+use dataset_tree::{Format, NoMemory, Stop};
+use encryption_roots::{LineKit, Location, Options, Props};
+use key_ciphers::{changed_format, fetched_key, is_passphrase, seed_behind_key, seeded_salt};
+use key_formats::DEFAULT_ITERATIONS;
 use salt_rotation::SeedWords;
-
-/// The iterations of PBKDF2 where neither the options nor a present passphrase have any.
-const DEFAULT_ITERATIONS: u32 = 350_000;
 
 /// The key of a dataset from a change on, with its properties and the seed of the line.
 #[derive(Drop)]
@@ -55,19 +52,6 @@ pub(crate) fn new_key(own: Option<&Props>, opts: &Options, kit: &LineKit) -> Res
     Ok(NewKey { props, key, seed })
 }
 
-/// The key format: that of the options, else the present one.
-pub(crate) fn changed_format(own: Option<&Props>, opts: &Options) -> Format
-    ensures { result ≡ changed_format (option_copied own.entry) opts.now }
-{
-    match opts.format {
-        Some(format) => format,
-        None => match own {
-            Some(props) => props.format,
-            None => Format::Raw,
-        },
-    }
-}
-
 fn changed_place(own: Option<&Props>, opts: &Options) -> Result<Location, NoMemory>
     ensures { IfOk result (λ place. place ≡ changed_place (option_copied own.entry) opts.now) }
 {
@@ -86,7 +70,7 @@ fn changed_iters(own: Option<&Props>, opts: &Options) -> u32
     requires { are_bad_iterations opts.now.iters ≡ false }
     ensures { result ≡ changed_iters (option_copied own.entry) opts.now }
 {
-    if !is_passphrase(changed_format(own, opts)) {
+    if !is_passphrase(Some(changed_format(own, opts))) {
         return 0;
     }
     match opts.iters {
@@ -99,7 +83,7 @@ fn kept_iters(own: Option<&Props>) -> u32
     ensures { result ≡ kept_iters (option_copied own.entry) }
 {
     match own {
-        Some(props) if is_passphrase(props.format) => props.iters,
+        Some(props) if is_passphrase(Some(props.format)) => props.iters,
         _ => DEFAULT_ITERATIONS,
     }
 }
@@ -108,38 +92,9 @@ fn kept_iters(own: Option<&Props>) -> u32
 fn changed_salt(format: Format, seed: &SeedWords) -> u64
     ensures { result ≡ salt_for ciphers format seed.now }
 {
-    if is_passphrase(format) {
+    if is_passphrase(Some(format)) {
         seeded_salt(seed)
     } else {
         0
-    }
-}
-
-pub(crate) fn is_passphrase(format: Format) -> bool
-    ensures { result ≡ is_passphrase (Some format) }
-{
-    format == Format::Passphrase
-}
-
-/// The seed of a line whose new key has no fault, or the first fault of both. No key is derived for
-/// it.
-fn seed_behind_key(format: Format, iters: u32, kit: &LineKit) -> Result<[u8; 32], Refusal>
-    ensures { (salt : ℕ) → result
-        ≡ unless_fault (result_err (key_of ciphers format iters salt kit.now.new_key))
-        (seed_of kit.now.seed) }
-{
-    if let Some(why) = fetched_fault(format, iters, &kit.new_key) {
-        return Err(why);
-    }
-    seed_got(kit.seed)
-}
-
-/// The seed that was had.
-pub(crate) fn seed_got(seed: SeedGot) -> Result<[u8; 32], Refusal>
-    ensures { result ≡ seed_of seed }
-{
-    match seed {
-        SeedGot::Got(seed) => Ok(seed),
-        SeedGot::Fault | SeedGot::NotAsked => Err(Refusal::EntropyFault),
     }
 }

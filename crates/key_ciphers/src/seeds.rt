@@ -1,13 +1,18 @@
 // What the words of a seed make.
-ghost use Rattle.std.specs.Prelude.{◌≡◌};
+ghost use Rattle.std.specs.Prelude.{◌≡◌, ℕ};
+ghost use Rattle.std.specs.Result.{result_err};
 ghost use Rattle.byte_fields.specs.LittleEndian.{little_endian_value};
 ghost use Rattle.salt_rotation.specs.SeedWords.{seed_bytes};
 ghost use Rattle.salt_rotation.specs.Places.{salt_place, vector_place};
 ghost use Rattle.key_machine.specs.Create.{seeded_master};
+ghost use Rattle.key_machine.specs.Told.{key_of, seed_of};
 ghost use Rattle.key_ciphers.specs.Ciphers.{ciphers, value_of};
+ghost use Rattle.key_ciphers.specs.Calls.{unless_fault};
 
+use crate::material::fetched_fault;
 use byte_fields::get_u64;
-use dataset_tree::Suite;
+use dataset_tree::{Format, Refusal, Suite};
+use encryption_roots::{LineKit, SeedGot};
 use salt_rotation::{GUID_PLACE, HMAC_PLACE, MASTER_PLACE, SALT_PLACE, SeedWords, place_of_vector};
 use wrapped_keys::MasterKey;
 
@@ -46,4 +51,26 @@ fn number_at(seed: &SeedWords, place: u64) -> u64
     let mut bytes = [0; 8];
     seed.fill(place, &mut bytes);
     get_u64(&bytes, 0)
+}
+
+/// The seed of a line whose new key has no fault, or the first fault of both. No key is derived for it.
+pub fn seed_behind_key(format: Format, iters: u32, kit: &LineKit) -> Result<[u8; 32], Refusal>
+    ensures { (salt : ℕ) → result
+        ≡ unless_fault (result_err (key_of ciphers format iters salt kit.now.new_key))
+        (seed_of kit.now.seed) }
+{
+    if let Some(why) = fetched_fault(format, iters, &kit.new_key) {
+        return Err(why);
+    }
+    seed_got(kit.seed)
+}
+
+/// The seed that was had, `EntropyFault` where none was.
+pub fn seed_got(seed: SeedGot) -> Result<[u8; 32], Refusal>
+    ensures { result ≡ seed_of seed }
+{
+    match seed {
+        SeedGot::Got(seed) => Ok(seed),
+        SeedGot::Fault | SeedGot::NotAsked => Err(Refusal::EntropyFault),
+    }
 }

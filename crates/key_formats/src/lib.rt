@@ -28,10 +28,13 @@ const PASSPHRASE_MIN: usize = 8;
 
 const PASSPHRASE_MAX: usize = 512;
 
-/// The least and the most iterations of PBKDF2.
-const ITERS_MIN: u32 = 100_000;
+/// The fewest and the most iterations of PBKDF2.
+pub const MIN_ITERATIONS: u32 = 100_000;
 
-const ITERS_MAX: u32 = 10_000_000;
+pub const MAX_ITERATIONS: u32 = 10_000_000;
+
+/// The iterations of PBKDF2 where none are given.
+pub const DEFAULT_ITERATIONS: u32 = 350_000;
 
 /// The wrapping key of key material: the material itself, the bytes that its digits spell, or the key that PBKDF2
 /// derives from a passphrase with `iters` iterations and `salt`, as its eight bytes from the least significant on.
@@ -162,7 +165,7 @@ fn passphrase_fault(phrase: &[u8], iters: u32) -> Option<Refusal>
     ensures fault { result ≡ passphrase_fault phrase.now iters }
     ensures none { IfNone result (1 ≤ iters) }
 {
-    if iters < ITERS_MIN || iters > ITERS_MAX {
+    if iters < MIN_ITERATIONS || iters > MAX_ITERATIONS {
         return Some(Refusal::BadIters);
     }
     length_fault(phrase, PASSPHRASE_MIN, PASSPHRASE_MAX)

@@ -42,7 +42,8 @@ use Rattle.key_store.specs.declared.state.FamilyRecord.{FamilyRecord}
 use Rattle.key_ciphers.proofs.CipherLaws.{ciphers_sound}
 use Rattle.key_ciphers.specs.Ciphers.{ciphers}
 use Rattle.key_store.specs.Calls.{stepped}
-use Rattle.key_store.specs.NewRoot.{IsToldFamily, IsToldRoot, unless_fault}
+use Rattle.key_store.specs.NewRoot.{IsToldFamily, IsToldRoot}
+use Rattle.key_ciphers.specs.Calls.{unless_fault}
 use Rattle.key_store.specs.State.{stored_of}
 
 pub few_families : (p : Plain) (name : List ℕ) (opts : Options) → IsFree p name opts → makes_encrypted p name opts ≡ true → length p.wrapped < 32

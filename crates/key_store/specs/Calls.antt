@@ -7,18 +7,14 @@ use Rattle.dataset_tree.specs.declared.refusal.Refusal.TheVariants.{WrongKey}
 use Rattle.dataset_tree.specs.declared.refusal.Stop.{Stop}
 use Rattle.dataset_tree.specs.declared.refusal.Stop.TheVariants as stops
 use Rattle.encryption_roots.specs.declared.command.KeyCmd.{KeyCmd}
-use Rattle.encryption_roots.specs.declared.kit.LineKit.{LineKit}
 use Rattle.key_machine.specs.Plain.{Plain, owner_of, is_same}
-use Rattle.key_machine.specs.Reply.{Stepped, Reply, Done, Made, Refused}
-use Rattle.key_machine.specs.Step.{refusal_of, wanted, told, key_step}
+use Rattle.key_machine.specs.Reply.{Reply, Done, Made, Refused}
+use Rattle.key_machine.specs.Step.{refusal_of, wanted}
 use Rattle.key_machine.specs.Told.{Wanted, Told}
 use Rattle.key_store.specs.declared.needs.Needs.{Needs}
 use Rattle.key_store.specs.declared.state.FamilyRecord.{FamilyRecord}
 use Rattle.key_ciphers.specs.Ciphers.{ciphers}
-
--- the step of a command under what its kit tells
-abbrev pub stepped : Plain → KeyCmd → LineKit → Stepped
-stepped p command kit = key_step p command (told ciphers p command kit)
+pub use Rattle.key_ciphers.specs.Calls.{stepped, AnswersDone}
 
 -- what a command wants, or why the state refuses it
 abbrev pub needs_of : Wanted → Needs
@@ -54,11 +50,6 @@ abbrev pub AnswersMade : Result ℕ Stop → Reply → Type 0
 AnswersMade (Ok id) reply = reply ≡ Made id
 AnswersMade (Err (stops.Refused why)) reply = reply ≡ Refused why
 AnswersMade (Err stops.NoMemory) reply = Unit {0}
-
-abbrev pub AnswersDone : {T : Type 0} → Result T Stop → Reply → Type 0
-AnswersDone (Ok _) reply = reply ≡ Done
-AnswersDone (Err (stops.Refused why)) reply = reply ≡ Refused why
-AnswersDone (Err stops.NoMemory) reply = Unit {0}
 
 abbrev pub AnswersUnloaded : {T : Type 0} → Result T Why → Reply → Type 0
 AnswersUnloaded (Ok _) reply = reply ≡ Done

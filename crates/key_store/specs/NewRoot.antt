@@ -42,8 +42,3 @@ abbrev pub TellsFault : {T : Type 0} → Told → Result T Stop → Type 0
 TellsFault facts (Ok _) = Unit {0}
 TellsFault facts (Err (stops.Refused why)) = facts.fault ≡ Some why
 TellsFault facts (Err stops.NoMemory) = Unit {0}
-
--- what was had, where nothing before it has a fault
-abbrev pub unless_fault : Option Why → Result (List ℕ) Why → Result (List ℕ) Why
-unless_fault None had = had
-unless_fault (Some why) had = Err why

@@ -1,7 +1,6 @@
 // New datasets.
 ghost use Rattle.std.specs.Prelude.{◌≡◌, ℕ, ◌<◌, ◌≤◌, ◌+◌, true, false, length, vec_capacity, unwrap_or, is_some, Some, None, IfOk, IfSome, OnOk, OnErr};
 ghost use Rattle.std.specs.Option.{option_copied, option_and_then};
-ghost use Rattle.std.specs.Result.{result_err};
 ghost use Rattle.dataset_tree.specs.Tree.{new_id, with_row};
 ghost use Rattle.encryption_roots.specs.ById.{IsRisingById, at_id, with_id};
 ghost use Rattle.encryption_roots.specs.RecordSize.{IsRecordSize};
@@ -9,26 +8,25 @@ ghost use Rattle.encryption_roots.specs.declared.command.KeyCmd.TheVariants as c
 ghost use Rattle.key_machine.specs.Plain.{mkey, owner_of};
 ghost use Rattle.key_machine.specs.Create.{makes_heir, makes_encrypted, is_below_encrypted, parent_row, parent_key, is_passphrase, are_bad_iterations, new_suite, parent_suite, new_iters, new_salt};
 ghost use Rattle.key_machine.specs.Step.{refusal_of, told};
-ghost use Rattle.key_machine.specs.Told.{key_of, seed_of};
 ghost use Rattle.key_ciphers.specs.Ciphers.{ciphers};
 ghost use Rattle.key_store.specs.Calls.{stepped, state_after, AnswersMade};
-ghost use Rattle.key_store.specs.NewRoot.{IsToldRoot, GivesHeir, TellsFault, unless_fault};
+ghost use Rattle.key_store.specs.NewRoot.{IsToldRoot, GivesHeir, TellsFault};
 ghost use Rattle.encryption_roots.specs.Props.{KeepsIterations};
 ghost use Rattle.encryption_roots.specs.declared.props.Location.{Location};
 
-use crate::needs::{is_passphrase, place_or_prompt};
+use crate::needs::place_or_prompt;
 use crate::state::{FamilyRecord, KeyState};
 use dataset_tree::{Format, Kind, NoMemory, Refusal, SetName, Stop, Suite, Tree};
-use encryption_roots::{LineKit, Options, Props, SeedGot, at_id, owner_of, put_at_id};
-use key_ciphers::{fetched_fault, fetched_key, seeded_record, seeded_salt};
+use encryption_roots::{LineKit, Options, Props, at_id, owner_of, put_at_id};
+use key_ciphers::{
+    fetched_key, is_passphrase, seed_behind_key, seed_got, seeded_record, seeded_salt,
+};
+use key_formats::DEFAULT_ITERATIONS;
 use salt_rotation::SeedWords;
 use std::alloc::AllocError;
 
 /// The record size where the options have none, in bytes.
 const DEFAULT_RECORD_SIZE: u32 = 131_072;
-
-/// The iterations of PBKDF2 where the options have none.
-const DEFAULT_ITERATIONS: u64 = 350_000;
 
 /// What makes a dataset an encryption root.
 #[derive(Drop)]
@@ -238,29 +236,9 @@ fn new_iters(opts: &Options) -> u32
     ensures within { is_passphrase opts.now.format ≡ true → (100000 ≤ result) × (result ≤ 10000000) }
 {
     if is_passphrase(opts.format) {
-        opts.iters.unwrap_or(DEFAULT_ITERATIONS) as u32
+        opts.iters.unwrap_or(u64::from(DEFAULT_ITERATIONS)) as u32
     } else {
         0
-    }
-}
-
-/// The seed of a line whose new key has no fault, or the first fault of both. No key is derived for it.
-fn seed_behind_key(format: Format, iters: u32, kit: &LineKit) -> Result<[u8; 32], Refusal>
-    ensures { (salt : ℕ) → result ≡ unless_fault (result_err (key_of ciphers format iters salt kit.now.new_key)) (seed_of kit.now.seed) }
-{
-    if let Some(why) = fetched_fault(format, iters, &kit.new_key) {
-        return Err(why);
-    }
-    seed_got(kit.seed)
-}
-
-/// The seed that was had.
-fn seed_got(seed: SeedGot) -> Result<[u8; 32], Refusal>
-    ensures { result ≡ seed_of seed }
-{
-    match seed {
-        SeedGot::Got(seed) => Ok(seed),
-        SeedGot::Fault | SeedGot::NotAsked => Err(Refusal::EntropyFault),
     }
 }
 

@@ -4,20 +4,21 @@ ghost use Rattle.std.specs.Option.{option_copied, option_map};
 ghost use Rattle.dataset_tree.specs.SetName.{parent_name};
 ghost use Rattle.dataset_tree.specs.Tree.{row_named, parent_in};
 ghost use Rattle.encryption_roots.specs.ById.{at_id};
-ghost use Rattle.key_machine.specs.Plain.{is_loaded, is_root, is_encrypted_row};
+ghost use Rattle.key_machine.specs.Plain.{is_loaded, is_root};
 ghost use Rattle.key_machine.specs.Create.{parent_row, is_below_encrypted};
 ghost use Rattle.key_store.specs.State.{stored_of};
 
 use crate::state::{FamilyRecord, KeyState};
-use dataset_tree::{Kind, Row, SetName};
+use dataset_tree::{Row, SetName};
 use encryption_roots::at_id;
+use key_ciphers::{is_encrypted, row_named};
 
 impl KeyState {
     /// The dataset of this name.
     pub(crate) fn row_named(&self, name: &[u8]) -> Option<&Row>
         ensures { option_copied result ≡ row_named name.now self.now.tree.rows }
     {
-        row_in(self.tree.rows(), name)
+        row_named(self.tree.rows(), name)
     }
 
     /// The dataset below which a new one of this name would stand.
@@ -63,21 +64,5 @@ impl KeyState {
         ensures { option_map stored_of (option_copied result) ≡ at_id family self.now.wrapped }
     {
         at_id(self.records.as_slice(), family)
-    }
-}
-
-fn row_in<'a>(rows: &'a [Row], name: &[u8]) -> Option<&'a Row>
-    ensures { option_copied result ≡ row_named name.now rows.now }
-{
-    rows.iter().find(|row| row.name.as_bytes() == name)
-}
-
-/// Whether there is a dataset and it is encrypted.
-pub(crate) fn is_encrypted(row: Option<&Row>) -> bool
-    ensures { result ≡ is_encrypted_row (option_copied row.entry) }
-{
-    match row {
-        None => false,
-        Some(row) => row.kind == Kind::Crypt,
     }
 }

@@ -4,10 +4,8 @@ ghost use Rattle.std.specs.Option.{option_copied};
 ghost use Rattle.dataset_tree.specs.Refusal.{Gives};
 ghost use Rattle.encryption_roots.specs.declared.command.KeyCmd.TheVariants as commands;
 ghost use Rattle.dataset_tree.specs.Tree.{row_named, id_named};
-ghost use Rattle.key_machine.specs.Change.{are_bad_changes, change_cases, changed_format};
-ghost use Rattle.key_machine.specs.Create.{makes_heir, makes_encrypted, parent_row, create_cases, is_passphrase, are_bad_options, are_bad_iterations, has_parent_key};
+ghost use Rattle.key_machine.specs.Create.{makes_heir, makes_encrypted, parent_row, create_cases, are_bad_options, has_parent_key};
 ghost use Rattle.key_machine.specs.Get.{get_cases};
-ghost use Rattle.key_machine.specs.Inherit.{inherit_cases};
 ghost use Rattle.key_machine.specs.Load.{load_cases, own_place};
 ghost use Rattle.key_machine.specs.Refusals.{first_of, root_cases};
 ghost use Rattle.key_machine.specs.Rekey.{old_place};
@@ -16,18 +14,15 @@ ghost use Rattle.key_machine.specs.Told.{nothing_wanted};
 ghost use Rattle.key_machine.specs.Unload.{unload_cases};
 ghost use Rattle.key_store.specs.Calls.{needed, needs_of, GivesRoot};
 
-use crate::lookup::is_encrypted;
 use crate::state::{KeyState, MAX_FAMILIES};
-use dataset_tree::{Format, Kind, NoMemory, Refusal, Row, SetName, Stop};
-use encryption_roots::{KeyCmd, Location, Options, Props};
+use dataset_tree::{Kind, NoMemory, Refusal, SetName, Stop};
+use encryption_roots::{KeyCmd, Location, Options};
+use key_ciphers::{
+    are_bad_iterations, change_refusal, has_parent_key, inherit_refusal, is_passphrase,
+};
 
 /// The most datasets of a host.
 const MAX_DATASETS: usize = 256;
-
-/// The fewest and the most iterations of PBKDF2.
-const MIN_ITERATIONS: u64 = 100_000;
-
-const MAX_ITERATIONS: u64 = 10_000_000;
 
 /// The last id that a dataset has.
 const MAX_ID: u32 = u32::MAX;
@@ -96,8 +91,8 @@ impl KeyState {
                 name,
                 opts,
                 load_first,
-            } => self.change_refusal(name, opts, *load_first),
-            KeyCmd::Inherit { name, load_first } => self.inherit_refusal(name, *load_first),
+            } => change_refusal(self, name, opts, *load_first),
+            KeyCmd::Inherit { name, load_first } => inherit_refusal(self, name, *load_first),
             KeyCmd::Mount { .. }
             | KeyCmd::Unmount { .. }
             | KeyCmd::Clone { .. }
@@ -254,62 +249,6 @@ impl KeyState {
         None
     }
 
-    /// Why the state refuses a change of the key.
-    fn change_refusal(&self, name: &SetName, opts: &Options, load_first: bool) -> Option<Refusal>
-        ensures { result ≡ first_of (change_cases self.now name.now opts.now load_first) }
-    {
-        let Some(row) = self.row_named(name.as_bytes()) else {
-            return Some(Refusal::NoSuch);
-        };
-        if row.kind != Kind::Crypt {
-            return Some(Refusal::NotEncrypted);
-        }
-        if row.origin != 0 {
-            return Some(Refusal::IsClone);
-        }
-        if are_bad_changes(self.roots.get(row.id), opts) {
-            return Some(Refusal::BadOptions);
-        }
-        if are_bad_iterations(opts.iters) {
-            return Some(Refusal::BadIters);
-        }
-        if !load_first && !self.status(row.id) {
-            return Some(Refusal::KeyUnavailable);
-        }
-        None
-    }
-
-    /// Why the state refuses that a root inherits its parent's key. Where the present key is to be fetched, a parent whose key
-    /// isn't loaded is refused later, behind that key.
-    fn inherit_refusal(&self, name: &SetName, load_first: bool) -> Option<Refusal>
-        ensures { result ≡ first_of (inherit_cases self.now name.now load_first) }
-    {
-        let Some(row) = self.row_named(name.as_bytes()) else {
-            return Some(Refusal::NoSuch);
-        };
-        if row.kind != Kind::Crypt {
-            return Some(Refusal::NotEncrypted);
-        }
-        if row.origin != 0 {
-            return Some(Refusal::IsClone);
-        }
-        if !self.is_root(row.id) {
-            return Some(Refusal::NotRoot);
-        }
-        let above = self.tree.row(row.parent);
-        if !is_encrypted(above) {
-            return Some(Refusal::NoEncryptedParent);
-        }
-        let is_loaded = self.status(row.id);
-        if !load_first && !is_loaded {
-            return Some(Refusal::KeyUnavailable);
-        }
-        if is_loaded && !self.has_key_of(above) {
-            return Some(Refusal::KeyUnavailable);
-        }
-        None
-    }
-
     /// The root that a load is about, or why the state refuses it.
     pub(crate) fn load_root(&self, name: &SetName, check_only: bool) -> Result<u32, Refusal>
         ensures { GivesRoot result (first_of (load_cases self.now name.now check_only)) (id_named name.now self.now.tree.rows) }
@@ -380,17 +319,7 @@ impl KeyState {
     fn has_parent_key(&self, name: &SetName) -> bool
         ensures { result ≡ has_parent_key self.now (parent_row self.now name.now) }
     {
-        self.has_key_of(self.parent_row(name))
-    }
-
-    /// Whether there is a dataset and its key is loaded.
-    fn has_key_of(&self, row: Option<&Row>) -> bool
-        ensures { result ≡ has_parent_key self.now (option_copied row.entry) }
-    {
-        match row {
-            None => false,
-            Some(row) => self.status(row.id),
-        }
+        has_parent_key(self, self.parent_row(name))
     }
 
     /// Whether the options don't go together.
@@ -402,40 +331,6 @@ impl KeyState {
             Some(_) => opts.iters.is_some() && !is_passphrase(opts.format),
             None => opts.place.is_some() || opts.iters.is_some() || opts.suite.is_some() && !below,
         }
-    }
-}
-
-pub(crate) fn is_passphrase(format: Option<Format>) -> bool
-    ensures { result ≡ is_passphrase format }
-{
-    format == Some(Format::Passphrase)
-}
-
-/// Whether the options of a change don't go together, for a dataset with these properties of its own.
-fn are_bad_changes(own: Option<&Props>, opts: &Options) -> bool
-    ensures { result ≡ are_bad_changes (option_copied own.entry) opts.now }
-{
-    own.is_none() && opts.format.is_none()
-        || opts.iters.is_some() && !is_passphrase(Some(changed_format(own, opts)))
-}
-
-/// The key format after a change: that of the options, else the dataset's own.
-fn changed_format(own: Option<&Props>, opts: &Options) -> Format
-    ensures { result ≡ changed_format (option_copied own.entry) opts.now }
-{
-    match (opts.format, own) {
-        (Some(format), _) => format,
-        (None, Some(props)) => props.format,
-        (None, None) => Format::Raw,
-    }
-}
-
-fn are_bad_iterations(iters: Option<u64>) -> bool
-    ensures { result ≡ are_bad_iterations iters }
-{
-    match iters {
-        None => false,
-        Some(iters) => iters < MIN_ITERATIONS || iters > MAX_ITERATIONS,
     }
 }
 

@@ -5,7 +5,8 @@ ghost use Rattle.encryption_roots.specs.Props.{KeepsIterations};
 ghost use Rattle.key_machine.specs.Plain.{no_keys, has_key};
 
 use dataset_tree::{NoMemory, RecordBytes, Tree};
-use encryption_roots::{Roots, owner_of};
+use encryption_roots::Roots;
+use key_ciphers::has_key;
 use std::alloc::Global;
 use std::marker::Model;
 
@@ -82,9 +83,6 @@ impl KeyState {
     pub fn status(&self, id: u32) -> bool
         ensures { result ≡ has_key self.now id }
     {
-        match owner_of(&self.tree, &self.roots, id) {
-            None => false,
-            Some(root) => self.is_loaded(root),
-        }
+        has_key(self, id)
     }
 }

@@ -1,12 +1,15 @@
 // The commands of the keystore, by calls: what no script shows.
-ghost use Rattle.std.specs.Prelude.{IfOk, IfSome};
+ghost use Rattle.std.specs.Prelude.{◌≡◌, IfOk, IfSome, is_some};
 ghost use Rattle.encryption_roots.specs.RecordSize.{IsRecordSize};
+ghost use Rattle.wrapped_keys.specs.Stored.{parsed_record};
 
 use super::*;
-use dataset_tree::{Format, MaterialFault, Refusal, SetName, Stop};
-use encryption_roots::{Fetched, KeyCmd, LineKit, Material, Options, Prop, SeedGot};
+use crate::state::FamilyRecord;
+use dataset_tree::{Format, MaterialFault, RecordBytes, Refusal, SetName, Stop};
+use encryption_roots::{Fetched, KeyCmd, LineKit, Material, Options, Prop, SeedGot, put_at_id};
 use std::alloc::Global;
 use std::test::Fail;
+use wrapped_keys::KeyRecord;
 
 const SEED: SeedGot = SeedGot::Got(*b"a seed of thirty-two bytes, here");
 
@@ -106,5 +109,52 @@ fn a_plain_dataset_has_no_key(rt: HostRuntime) -> Result<(), Fail> {
     let text = state.get_prop(1, Prop::KeyStatus)?;
     assert_eq!(rt; text.as_bytes(), b"-".as_slice());
     commands_keep_soundness();
+    Ok(())
+}
+
+// Turns a bit in the sealed text of a family's record, where no key is loaded.
+fn damage(state: &mut KeyState, family: u32) -> Result<(), Fail> {
+    let Some(stored) = state.record(family) else {
+        return Err(Fail::from("no record"));
+    };
+    let block = stored.block;
+    let wrapped = damaged(&stored.wrapped)?;
+    if !is_in_form(&wrapped) || !state.loaded.is_empty() {
+        return Err(Fail::from("no damage"));
+    }
+    put_at_id(&mut state.records, family, FamilyRecord { wrapped, block })?;
+    Ok(())
+}
+
+fn is_in_form(wrapped: &RecordBytes) -> bool
+    ensures { result ≡ is_some (parsed_record wrapped.now) }
+{
+    KeyRecord::from_bytes(wrapped).is_some()
+}
+
+fn damaged(stored: &RecordBytes) -> Result<RecordBytes, Fail> {
+    let mut bytes = [0; 134];
+    let sealed = stored.as_slice();
+    let wrapped = &mut bytes[..sealed.len()];
+    wrapped.copy_from_slice(sealed);
+    *wrapped.last_mut().ok_or("no record")? ^= 1;
+    Ok(RecordBytes::from_slice(wrapped))
+}
+
+#[test]
+fn a_damaged_record_is_named(rt: HostRuntime) -> Result<(), Fail> {
+    let alloc = rt.alloc();
+    let mut state = with_root(alloc, &options(Format::Raw, None), RAW_KEY, SEED)??;
+    let kit = kit(alloc, RAW_KEY, SEED)?;
+    let heir = SetName::parse(alloc, b"tank/a")?;
+    state.create(&heir, &Options::none(), &kit)?;
+    let name = tank(alloc)?;
+    state.unload(&name)?;
+    damage(&mut state, 2)?;
+    let loaded = state.load(&name, false, &kit);
+    assert_eq!(rt;
+        loaded,
+        Err(Stop::Refused(Refusal::WrongKey { dataset: 2 }))
+    );
     Ok(())
 }

@@ -14,7 +14,7 @@ use Rattle.key_machine.proofs.SoundLemmas.{refused_step}
 use Rattle.key_ciphers.specs.Ciphers.{ciphers}
 use Rattle.key_ciphers.proofs.CipherLaws.{ciphers_sound}
 use Rattle.change_key.specs.Keys.{present_key}
-use Rattle.change_key.specs.Plans.{stepped}
+use Rattle.key_ciphers.specs.Calls.{stepped}
 use Rattle.change_key.proofs.ChangeLemmas.{encrypted, iterations, old_stops, opens, answers, plans, planned_of}
 use Rattle.change_key.proofs.PlanLemmas.{answers_gives, named}
 use Rattle.change_key.proofs.change.plan_change.Goals as goal
@@ -31,7 +31,7 @@ returns-in-Err-clause-reply g c =
     let p : Plain = g.V.KeyView.shows c.args.state.now in
     let state : first_of (change_cases p c.args.name.now c.args.opts.now c.args.load_first) ≡ None = sym c.change_refusal.ensures ∙ c.in_default.is in
     let at = named p c.args.name.now c.tree.result.now c.find.result c.in-Some-find.id c.tree.ensures c.find.ensures c.in-Some-find.is in
-    answers_gives c.in-Err.stop (present_key ciphers p c.in-Some-find.id c.args.kit.now.old_key) (stepped ciphers p (commands.Change c.args.name.now c.args.opts.now c.args.load_first) c.args.kit.now).reply c.in-Err.ensures
+    answers_gives c.in-Err.stop (present_key ciphers p c.in-Some-find.id c.args.kit.now.old_key) (stepped p (commands.Change c.args.name.now c.args.opts.now c.args.load_first) c.args.kit.now).reply c.in-Err.ensures
     (λ why failed. ap (λ (st : Stepped). st.reply)
     (old_stops ciphers ciphers_sound p c.requires.sound c.args.name.now c.args.opts.now c.args.load_first c.args.kit.now c.in-Some-find.id state at why failed))
 

@@ -14,7 +14,7 @@ use Rattle.key_machine.proofs.SoundLemmas.{refused_step}
 use Rattle.key_ciphers.specs.Ciphers.{ciphers}
 use Rattle.key_ciphers.proofs.CipherLaws.{ciphers_sound}
 use Rattle.change_key.specs.Keys.{root_key}
-use Rattle.change_key.specs.Plans.{stepped}
+use Rattle.key_ciphers.specs.Calls.{stepped}
 use Rattle.change_key.proofs.InheritLemmas.{is_a_root, old_stops, above_stops, opens, answers, plans, planned_of}
 use Rattle.change_key.proofs.MaterialFaults.{fetched_apart}
 use Rattle.change_key.proofs.PlanLemmas.{answers_gives, named}
@@ -25,7 +25,7 @@ returns-in-Err-clause-reply g c =
     let p : Plain = g.V.KeyView.shows c.args.state.now in
     let state : first_of (inherit_cases p c.args.name.now c.args.load_first) ≡ None = sym c.inherit_refusal.ensures ∙ c.in_default.is in
     let at = named p c.args.name.now c.tree.result.now c.find.result c.in-Some-find.id c.tree.ensures c.find.ensures c.in-Some-find.is in
-    answers_gives c.in-Err.stop (root_key ciphers p c.in-Some-find.id c.args.kit.now.old_key) (stepped ciphers p (commands.Inherit c.args.name.now c.args.load_first) c.args.kit.now).reply c.in-Err.ensures
+    answers_gives c.in-Err.stop (root_key ciphers p c.in-Some-find.id c.args.kit.now.old_key) (stepped p (commands.Inherit c.args.name.now c.args.load_first) c.args.kit.now).reply c.in-Err.ensures
     (λ why failed. ap (λ (st : Stepped). st.reply)
     (old_stops ciphers ciphers_sound p c.requires.sound c.args.name.now c.args.load_first c.args.kit.now c.in-Some-find.id state at (fetched_apart c.args.kit.now.old_key) why failed))
 

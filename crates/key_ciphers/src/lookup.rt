@@ -10,14 +10,14 @@ use encryption_roots::owner_of;
 use key_machine::KeyView;
 
 /// The dataset of this name.
-pub(crate) fn row_named<'a>(rows: &'a [Row], name: &[u8]) -> Option<&'a Row>
+pub fn row_named<'a>(rows: &'a [Row], name: &[u8]) -> Option<&'a Row>
     ensures { option_copied result ≡ row_named name.now rows.now }
 {
     rows.iter().find(|row| row.name.as_bytes() == name)
 }
 
 /// Whether there is a dataset and it is encrypted.
-pub(crate) fn is_encrypted(row: Option<&Row>) -> bool
+pub fn is_encrypted(row: Option<&Row>) -> bool
     ensures { result ≡ is_encrypted_row (option_copied row.entry) }
 {
     match row {
@@ -36,7 +36,7 @@ pub(crate) fn is_clone(row: Option<&Row>) -> bool
 }
 
 /// Whether the key that the dataset uses is loaded.
-pub(crate) fn has_key<V: KeyView>(state: &V, id: u32) -> bool
+pub fn has_key<V: KeyView>(state: &V, id: u32) -> bool
     ensures { result ≡ has_key (V.shows state.now) id }
 {
     match owner_of(state.tree(), state.roots(), id) {
