@@ -5,9 +5,9 @@ ghost use Rattle.shell_lines.specs.declared.line.Line.{Line};
 ghost use Rattle.shell_lines.specs.Sized.{HasRecordSize};
 ghost use Rattle.shell_lines.specs.Grammar.{Spells, line_of, is_comment, first_unprintable};
 ghost use Rattle.std.specs.Str.{bytes_eq};
-ghost use Rattle.shell_lines.specs.Left.{words_left, end_of, placed, texts, Reads};
+ghost use Rattle.shell_lines.specs.Left.{words_left, end_of, read_by, placed, texts, Reads};
 ghost use Rattle.shell_lines.specs.Commands.{commands, create, create_form, load_key, load_form, load_below_form, load_all_form, unload_key, unload_form, unload_below_form, unload_all_form, change_key, change_form, inherit_form, get_form};
-ghost use Rattle.shell_lines.specs.Forms.{line_from, form_from, forms_from, end_from, better};
+ghost use Rattle.shell_lines.specs.Forms.{line_from, form_from, end_from, better};
 ghost use Rattle.shell_lines.specs.Reading.{word_from, a_name, a_property, the_word, property_of};
 
 use crate::line::{Line, LineStop, Word};
@@ -85,11 +85,7 @@ fn first_unprintable(bytes: &[u8]) -> Option<usize>
     bytes.iter().position(|byte| !matches!(byte, b' '..=b'~'))
 }
 
-fn parse_command(
-    alloc: Global,
-    command: PlacedWord<'_>,
-    words: Words<'_>,
-) -> Result<Line, LineStop>
+fn parse_command(alloc: Global, command: PlacedWord<'_>, words: Words<'_>) -> Result<Line, LineStop>
     ensures { Spells result (line_from (end_of words.entry) commands (placed command.entry ∷ words_left words.entry)) }
 {
     if command.text == b"create".as_slice() {
@@ -121,8 +117,7 @@ fn parse_create(alloc: Global, mut words: Words<'_>) -> Result<Line, LineStop>
 
 /// `load-key` in one of its forms
 fn parse_load(alloc: Global, words: Words<'_>) -> Result<Line, LineStop>
-    ensures { (at : ℕ) → Spells result
-        (forms_from (end_of words.entry) at load_key.options load_key.forms (words_left words.entry)) }
+    ensures { Spells result (read_by load_key words.entry) }
 {
     let below_or_all = better(load_below(alloc, words), load_all(alloc, words));
     better(load_one(alloc, words), below_or_all)
@@ -156,7 +151,10 @@ fn load_below(alloc: Global, mut words: Words<'_>) -> Result<Line, LineStop>
     let name = parse_name(alloc, &[b"-n", b"-L", b"-r", b"-a"], &mut words)?;
     let check_only = is_set(&settings, OptionKind::CheckOnly);
     let line = Line::LoadBelow { name, check_only };
-    parse_end(made_if(is_set(&settings, OptionKind::Recursive), line), words)
+    parse_end(
+        made_if(is_set(&settings, OptionKind::Recursive), line),
+        words,
+    )
 }
 
 /// `load-key -a`, `-n` or none
@@ -167,13 +165,15 @@ fn load_all(alloc: Global, mut words: Words<'_>) -> Result<Line, LineStop>
     let settings = parse_options(alloc, &LOAD_ALL_OPTIONS, &mut words)?;
     let check_only = is_set(&settings, OptionKind::CheckOnly);
     let line = Line::LoadAll { check_only };
-    parse_end(made_if(is_set(&settings, OptionKind::AllRoots), line), words)
+    parse_end(
+        made_if(is_set(&settings, OptionKind::AllRoots), line),
+        words,
+    )
 }
 
 /// `unload-key` in one of its forms
 fn parse_unload(alloc: Global, words: Words<'_>) -> Result<Line, LineStop>
-    ensures { (at : ℕ) → Spells result
-        (forms_from (end_of words.entry) at unload_key.options unload_key.forms (words_left words.entry)) }
+    ensures { Spells result (read_by unload_key words.entry) }
 {
     let below_or_all = better(unload_below(alloc, words), unload_all(words));
     better(unload_one(alloc, words), below_or_all)
@@ -209,8 +209,7 @@ fn unload_all(mut words: Words<'_>) -> Result<Line, LineStop>
 
 /// `change-key` in one of its forms
 fn parse_change(alloc: Global, words: Words<'_>) -> Result<Line, LineStop>
-    ensures { (at : ℕ) → Spells result
-        (forms_from (end_of words.entry) at change_key.options change_key.forms (words_left words.entry)) }
+    ensures { Spells result (read_by change_key words.entry) }
 {
     better(change_key(alloc, words), inherit_key(alloc, words))
 }
