@@ -39,7 +39,7 @@ load_all_form =
     options_then (CheckOnly ∷ AllRoots ∷ []) (λ settings.
     end_as (if is_set settings AllRoots then Some (LoadAll (is_set settings CheckOnly)) else None))
 
--- `load-key`, `-n` and `-L LOC` or one of them or none, NAME; or `-r` with `-n` or without, NAME; or `-a` with `-n` or without
+-- `load-key`, `-n` and `-L LOC` or one of them or none, NAME; or `-r`, `-n` or not, NAME; or `-a`, `-n` or not
 abbrev pub load_key : Command
 load_key = record {
   word = codes "load-key";
