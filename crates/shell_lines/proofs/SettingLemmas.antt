@@ -22,8 +22,8 @@ use Rattle.encryption_roots.specs.declared.props.Location.TheVariants.{Prompt, F
 use Rattle.shell_lines.specs.declared.setting.OptionKind.{OptionKind}
 use Rattle.shell_lines.specs.declared.setting.OptionKind.TheVariants as kinds
 use Rattle.shell_lines.specs.declared.setting.Setting.{Setting}
-use Rattle.shell_lines.specs.declared.setting.Setting.TheVariants.{Encryption, KeyFormat, KeyLocation, Iterations, RecordSize, CheckOnly, LoadFrom}
-use Rattle.shell_lines.specs.Settings.{dash, key, kind_of, number_of, file_of, location_of, suite_value, format_value, place_value, iterations_value, record_size_value, key_value, load_from, setting_of}
+use Rattle.shell_lines.specs.declared.setting.Setting.TheVariants.{Encryption, KeyFormat, KeyLocation, Iterations, RecordSize, CheckOnly, LoadFrom, Recursive, AllRoots, LoadFirst, Inherit}
+use Rattle.shell_lines.specs.Settings.{dash, key, kind_of, number_of, file_of, location_of, suite_value, format_value, place_value, iterations_value, record_size_value, key_value, load_from, lone_setting, setting_of}
 use Rattle.shell_lines.specs.Reading.{is_same}
 use Rattle.shell_lines.specs.Language.{format_name, IsLocation, IsNumber, IsSpelled}
 use Rattle.shell_lines.proofs.FrontLemmas.{by_front, by_text}
@@ -81,6 +81,10 @@ setting_given word (KeyLocation place) h = rw h.spells (ap (option_map (λ p. Ke
 setting_given word (Iterations count) h = rw h.spells (ap (option_map (λ n. Iterations n)) (number_given h.value count h.is_value))
 setting_given word (RecordSize size) h = rw (h.spells, h.is_value.0) (size_given size h.is_value.1)
 setting_given word CheckOnly h = rw h refl
+setting_given word Recursive h = rw h refl
+setting_given word AllRoots h = rw h refl
+setting_given word LoadFirst h = rw h refl
+setting_given word Inherit h = rw h refl
 setting_given word (LoadFrom place) h = rw h.spells (ap (option_map (λ p. LoadFrom p)) (location_given h.value place h.is_value))
 
 -- What is given is spelled.
@@ -171,8 +175,16 @@ key_is text =
 place_from_is : (text : List ℕ) → IsTold (codes "-L") (Some text) (load_from text)
 place_from_is text = by_location text (λ place e is. rw e (record { value = text; spells = refl; is_value = is }, refl)) (λ e. rw e tt)
 
+lone_is : (word : List ℕ) → IsTold word None (lone_setting word)
+lone_is word =
+    by_text word (codes "-n") (λ e same. rw e (refl, sym same)) (λ e _. rw e
+    (by_text word (codes "-r") (λ f same. rw f (refl, sym same)) (λ f _. rw f
+    (by_text word (codes "-a") (λ g same. rw g (refl, sym same)) (λ g _. rw g
+    (by_text word (codes "-l") (λ h same. rw h (refl, sym same)) (λ h _. rw h
+    (by_text word (codes "-i") (λ i same. rw i (refl, sym same)) (λ i _. rw i tt)))))))))
+
 pub setting_is : (first : List ℕ) (word : Option (List ℕ)) → IsTold first word (setting_of first word)
-setting_is first None = by_text first (codes "-n") (λ e same. rw e (refl, sym same)) (λ e other. rw e tt)
+setting_is first None = lone_is first
 setting_is first (Some text) =
     by_text first (codes "-o")
     (λ e same. rw e (subst (λ begun. IsTold begun (Some text) (key_value text)) (sym same) (key_is text)))
@@ -184,9 +196,15 @@ setting_is first (Some text) =
 -- an option that has a word behind its first one is never that word alone
 pub none_alone : (first text : List ℕ) (setting : Setting) → setting_of first (Some text) ≡ Some setting → setting_of first None ≡ None
 none_alone first text setting e =
-    by_text first (codes "-n")
-    (λ f same. (let none : setting_of first (Some text) ≡ None = rw same refl in let nothing : None ≡ Some setting = sym none ∙ e in cc))
-    (λ f other. rw f refl)
+    unlone (codes "-n") refl (λ n. unlone (codes "-r") refl (λ r. unlone (codes "-a") refl (λ a.
+    unlone (codes "-l") refl (λ l. unlone (codes "-i") refl (λ i. rw (n, r, a, l, i) refl)))))
+  where
+    -- the word isn't one behind which no setting is given
+    unlone : (lone : List ℕ) → setting_of lone (Some text) ≡ None → (bytes_eq first lone ≡ false → lone_setting first ≡ None) → lone_setting first ≡ None
+    unlone lone none further =
+        by_text first lone
+        (λ _ same. let nothing : None ≡ Some setting = sym none ∙ subst (λ word. setting_of word (Some text) ≡ Some setting) same e in cc)
+        (λ f _. further f)
 
 -- Each kind of option has words, and is known by its key.
 
@@ -206,6 +224,10 @@ sample kinds.KeyFormat = key_sample (KeyFormat Raw) (codes "keyformat=raw") (rec
 sample kinds.KeyLocation = key_sample (KeyLocation (File (codes "/"))) (codes "keylocation=file:///") (record { value = codes "file:///"; spells = refl; is_value = (refl, refl) })
 sample kinds.Iterations = key_sample (Iterations 0) (codes "pbkdf2iters=0") (record { value = codes "0"; spells = refl; is_value = record { digits = (lit< tt, (lit< tt, tt)); short = lit≤ tt; is = refl } })
 sample kinds.CheckOnly = record { word = None; setting = CheckOnly; kind_is = refl; spelled = refl }
+sample kinds.Recursive = record { word = None; setting = Recursive; kind_is = refl; spelled = refl }
+sample kinds.AllRoots = record { word = None; setting = AllRoots; kind_is = refl; spelled = refl }
+sample kinds.LoadFirst = record { word = None; setting = LoadFirst; kind_is = refl; spelled = refl }
+sample kinds.Inherit = record { word = None; setting = Inherit; kind_is = refl; spelled = refl }
 sample kinds.LoadFrom = key_sample (LoadFrom Prompt) (codes "prompt") (record { value = codes "prompt"; spells = refl; is_value = refl })
 sample kinds.RecordSize = key_sample (RecordSize 512) (codes "recordsize=512") (record { value = codes "512"; spells = refl; is_value = (refl, refl) })
 
@@ -217,7 +239,11 @@ kind_by text =
     else if bytes_eq text (codes "pbkdf2iters") then Some kinds.Iterations
     else if bytes_eq text (codes "recordsize") then Some kinds.RecordSize
     else if bytes_eq text (codes "-n") then Some kinds.CheckOnly
-    else Some kinds.LoadFrom
+    else if bytes_eq text (codes "-L") then Some kinds.LoadFrom
+    else if bytes_eq text (codes "-r") then Some kinds.Recursive
+    else if bytes_eq text (codes "-a") then Some kinds.AllRoots
+    else if bytes_eq text (codes "-l") then Some kinds.LoadFirst
+    else Some kinds.Inherit
 
 by_its_key : (kind : OptionKind) → kind_by (key kind) ≡ Some kind
 by_its_key kinds.Encryption = refl
@@ -227,6 +253,10 @@ by_its_key kinds.Iterations = refl
 by_its_key kinds.RecordSize = refl
 by_its_key kinds.CheckOnly = refl
 by_its_key kinds.LoadFrom = refl
+by_its_key kinds.Recursive = refl
+by_its_key kinds.AllRoots = refl
+by_its_key kinds.LoadFirst = refl
+by_its_key kinds.Inherit = refl
 
 pub same_kind : (kind other : OptionKind) → is_same kind other ≡ true → kind ≡ other
 same_kind kind other e =

@@ -1,19 +1,20 @@
 -- The record size of a line is in form.
-use Rattle.std.proofs.Common.{◌≡◌, IfOk, eqb, ℕ, Option, Some, None, inl, inr, List, [], ◌∷◌, ◌++◌, length, Result, Ok, Err, sym, subst}
+use Rattle.std.proofs.Common.{◌≡◌, IfOk, eqb, if◌then◌else◌, ℕ, Bool, true, false, Option, Some, None, inl, inr, List, [], ◌∷◌, ◌++◌, length, Result, Ok, Err, sym, subst}
 use Rattle.std.specs.List.{AllByRecursion, fold}
 use Rattle.encryption_roots.specs.Options.{no_options}
 use Rattle.encryption_roots.specs.RecordSize.{IsRecordSize}
 use Rattle.encryption_roots.specs.declared.props.Options.{Options}
 use Rattle.shell_lines.specs.declared.line.Line.{Line}
-use Rattle.shell_lines.specs.declared.line.Line.TheVariants.{Silent}
+use Rattle.shell_lines.specs.declared.line.Line.TheVariants.{Silent, LoadBelow, LoadAll, InheritKey}
 use Rattle.shell_lines.specs.declared.line.LineStop.{LineStop}
 use Rattle.shell_lines.specs.declared.line.LineStop.TheVariants as stops
 use Rattle.shell_lines.specs.declared.setting.OptionKind.{OptionKind}
+use Rattle.shell_lines.specs.declared.setting.OptionKind.TheVariants as kinds
 use Rattle.shell_lines.specs.declared.setting.Setting.{Setting}
-use Rattle.shell_lines.specs.declared.setting.Setting.TheVariants.{Encryption, KeyFormat, KeyLocation, Iterations, RecordSize, CheckOnly, LoadFrom}
+use Rattle.shell_lines.specs.declared.setting.Setting.TheVariants.{Encryption, KeyFormat, KeyLocation, Iterations, RecordSize, CheckOnly, LoadFrom, Recursive, AllRoots, LoadFirst, Inherit}
 use Rattle.shell_lines.specs.Settings.{with_setting}
 use Rattle.shell_lines.specs.Words.{WordAt, words_of}
-use Rattle.shell_lines.specs.Reading.{Value}
+use Rattle.shell_lines.specs.Reading.{Value, is_set}
 use Rattle.shell_lines.specs.Forms.{Form, end_as, word_then, options_then, Command, line_from}
 use Rattle.shell_lines.specs.Commands.{commands}
 use Rattle.shell_lines.specs.Grammar.{Spells, line_of, placed_of, is_comment, printable_line, first_unprintable}
@@ -34,6 +35,10 @@ spelled_sized word (Iterations count) h = tt
 spelled_sized word (RecordSize size) h = h.is_value.1
 spelled_sized word CheckOnly h = tt
 spelled_sized word (LoadFrom place) h = tt
+spelled_sized word Recursive h = tt
+spelled_sized word AllRoots h = tt
+spelled_sized word LoadFirst h = tt
+spelled_sized word Inherit h = tt
 
 all_sized : (kinds : List OptionKind) (spelled : List Spelled) (settings : List Setting) → AreNew kinds settings spelled → AllByRecursion SetsRecordSize (settings_of spelled)
 all_sized kinds [] settings h = tt
@@ -47,6 +52,10 @@ with_sized options (Iterations count) h s = h
 with_sized options (RecordSize size) h s = s
 with_sized options CheckOnly h s = h
 with_sized options (LoadFrom place) h s = h
+with_sized options Recursive h s = h
+with_sized options AllRoots h s = h
+with_sized options LoadFirst h s = h
+with_sized options Inherit h s = h
 
 fold_sized : (settings : List Setting) (options : Options) → SizedOptions options → AllByRecursion SetsRecordSize settings → SizedOptions (fold with_setting options settings)
 fold_sized [] options h all = h
@@ -59,10 +68,29 @@ Sized (end_as (Some line)) = HasRecordSize line
 Sized (word_then kind next) = (value : Value kind) → Sized (next value)
 Sized (options_then kinds next) = (settings : List Setting) → AllByRecursion SetsRecordSize settings → Sized (next settings)
 
+if_sized : (stands : Bool) (line : Line) → HasRecordSize line → Sized (end_as (if stands then Some line else None))
+if_sized true line h = h
+if_sized false line h = tt
+
 commands_sized : AllByRecursion (λ command. AllByRecursion Sized command.forms) commands
 commands_sized = (
   ((λ settings all name. fold_sized settings no_options tt all), tt),
-  ((λ settings all name. tt, tt), ((λ name. tt, tt), ((λ prop name. tt, tt), ((tt, tt), tt)))),
+  (
+    (
+      λ settings all name. tt,
+      (
+        (λ settings all name. if_sized (is_set settings kinds.Recursive) (LoadBelow name (is_set settings kinds.CheckOnly)) tt),
+        ((λ settings all. if_sized (is_set settings kinds.AllRoots) (LoadAll (is_set settings kinds.CheckOnly)) tt), tt),
+      ),
+    ),
+    (
+      (λ name. tt, ((λ _ name. tt), ((λ _. tt), tt))),
+      (
+        (λ settings all name. fold_sized settings no_options tt all, ((λ settings all name. if_sized (is_set settings kinds.Inherit) (InheritKey name (is_set settings kinds.LoadFirst)) tt), tt)),
+        ((λ prop name. tt, tt), ((tt, tt), tt)),
+      ),
+    ),
+  ),
 )
 
 form_sized : (options : List (List ℕ)) (form : Form) (line : Line) (words : List (List ℕ)) → Sized form → Matches options form (Some line) words → HasRecordSize line

@@ -19,7 +19,7 @@ pub data Form : Type 0 where
 
 pub record Command : Type 0 where
   pub word : List ℕ
-  -- the words that are its options, also those of forms that aren't in the table yet
+  -- the words that are its options, in any of its forms
   pub options : List (List ℕ)
   pub forms : List Form
 

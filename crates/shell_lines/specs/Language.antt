@@ -19,7 +19,7 @@ use Rattle.shell_lines.specs.declared.line.Line.{Line}
 use Rattle.shell_lines.specs.declared.line.Line.TheVariants.{Silent}
 use Rattle.shell_lines.specs.declared.setting.OptionKind.{OptionKind}
 use Rattle.shell_lines.specs.declared.setting.Setting.{Setting}
-use Rattle.shell_lines.specs.declared.setting.Setting.TheVariants.{Encryption, KeyFormat, KeyLocation, Iterations, RecordSize, CheckOnly, LoadFrom}
+use Rattle.shell_lines.specs.declared.setting.Setting.TheVariants.{Encryption, KeyFormat, KeyLocation, Iterations, RecordSize, CheckOnly, LoadFrom, Recursive, AllRoots, LoadFirst, Inherit}
 use Rattle.shell_lines.specs.Settings.{dash, kind_of}
 use Rattle.shell_lines.specs.Reading.{WordKind, a_name, a_property, the_word, Value, has_kind, is_set, begins_option}
 use Rattle.shell_lines.specs.Forms.{Form, end_as, word_then, options_then, Command}
@@ -88,6 +88,10 @@ IsSpelled word (Iterations count) =
 IsSpelled word (RecordSize size) = IsKeyValue word (codes "recordsize") (λ value. (value ≡ decimal size) × IsRecordSize size)
 IsSpelled word CheckOnly = word ≡ None
 IsSpelled word (LoadFrom place) = IsLocationWord word place
+IsSpelled word Recursive = word ≡ None
+IsSpelled word AllRoots = word ≡ None
+IsSpelled word LoadFirst = word ≡ None
+IsSpelled word Inherit = word ≡ None
 
 -- what stands behind an option's first word, and the setting that it makes
 abbrev pub Spelled : Type 0

@@ -7,6 +7,8 @@ use Rattle.shell_lines.specs.declared.words.Words.{Words}
 use Rattle.shell_lines.specs.declared.words.PlacedWord.{PlacedWord}
 use Rattle.shell_lines.specs.Words.{WordAt, words_from}
 use Rattle.shell_lines.specs.Reading.{Reading, Taken, Wrong}
+use Rattle.shell_lines.specs.Forms.{Command, forms_from}
+use Rattle.shell_lines.specs.declared.line.Line.{Line}
 use Rattle.shell_lines.specs.declared.setting.Setting.{Setting}
 
 abbrev pub words_left : Words → List WordAt
@@ -15,6 +17,10 @@ words_left words = words_from words.at (drop words.at words.line.now)
 -- the length of the line
 abbrev pub end_of : Words → ℕ
 end_of words = length words.line.now
+
+-- what the forms of a command, of which it has some, make of the words that are left
+abbrev pub read_by : Command → Words → Result Line ℕ
+read_by command words = forms_from (end_of words) 0 command.options command.forms (words_left words)
 
 abbrev pub placed : PlacedWord → WordAt
 placed word = record { at = word.at; text = word.text.now }

@@ -18,7 +18,7 @@ use Rattle.encryption_roots.specs.declared.props.Options.{Options}
 use Rattle.shell_lines.specs.declared.setting.OptionKind.{OptionKind}
 use Rattle.shell_lines.specs.declared.setting.OptionKind.TheVariants as kinds
 use Rattle.shell_lines.specs.declared.setting.Setting.{Setting}
-use Rattle.shell_lines.specs.declared.setting.Setting.TheVariants.{Encryption, KeyFormat, KeyLocation, Iterations, RecordSize, CheckOnly, LoadFrom}
+use Rattle.shell_lines.specs.declared.setting.Setting.TheVariants.{Encryption, KeyFormat, KeyLocation, Iterations, RecordSize, CheckOnly, LoadFrom, Recursive, AllRoots, LoadFirst, Inherit}
 
 -- the word that begins an option of this kind
 abbrev pub dash : OptionKind → List ℕ
@@ -29,6 +29,10 @@ dash kinds.Iterations = codes "-o"
 dash kinds.RecordSize = codes "-o"
 dash kinds.CheckOnly = codes "-n"
 dash kinds.LoadFrom = codes "-L"
+dash kinds.Recursive = codes "-r"
+dash kinds.AllRoots = codes "-a"
+dash kinds.LoadFirst = codes "-l"
+dash kinds.Inherit = codes "-i"
 
 -- what tells this kind from the others
 abbrev pub key : OptionKind → List ℕ
@@ -39,6 +43,10 @@ key kinds.Iterations = codes "pbkdf2iters"
 key kinds.RecordSize = codes "recordsize"
 key kinds.CheckOnly = codes "-n"
 key kinds.LoadFrom = codes "-L"
+key kinds.Recursive = codes "-r"
+key kinds.AllRoots = codes "-a"
+key kinds.LoadFirst = codes "-l"
+key kinds.Inherit = codes "-i"
 
 -- the kind of option that makes this setting
 abbrev pub kind_of : Setting → OptionKind
@@ -49,6 +57,10 @@ kind_of (Iterations count) = kinds.Iterations
 kind_of (RecordSize size) = kinds.RecordSize
 kind_of CheckOnly = kinds.CheckOnly
 kind_of (LoadFrom place) = kinds.LoadFrom
+kind_of Recursive = kinds.Recursive
+kind_of AllRoots = kinds.AllRoots
+kind_of LoadFirst = kinds.LoadFirst
+kind_of Inherit = kinds.Inherit
 
 -- what stands behind a front in a text
 abbrev pub behind : List ℕ → List ℕ → Option (List ℕ)
@@ -128,9 +140,19 @@ key_value word =
 abbrev pub load_from : List ℕ → Option Setting
 load_from word = option_map (λ place. LoadFrom place) (location_of word)
 
+-- the setting that a word spells without another one behind it
+abbrev pub lone_setting : List ℕ → Option Setting
+lone_setting word =
+    if bytes_eq word (codes "-n") then Some CheckOnly
+    else if bytes_eq word (codes "-r") then Some Recursive
+    else if bytes_eq word (codes "-a") then Some AllRoots
+    else if bytes_eq word (codes "-l") then Some LoadFirst
+    else if bytes_eq word (codes "-i") then Some Inherit
+    else None
+
 -- The setting that an option's words spell: the word that begins it, and the one behind, where it has one.
 abbrev pub setting_of : List ℕ → Option (List ℕ) → Option Setting
-setting_of first None = if bytes_eq first (codes "-n") then Some CheckOnly else None
+setting_of first None = lone_setting first
 setting_of first (Some word) =
     if bytes_eq first (codes "-o") then key_value word
     else if bytes_eq first (codes "-L") then load_from word
@@ -144,6 +166,10 @@ with_setting options (Iterations count) = record options { iters = Some count }
 with_setting options (RecordSize size) = record options { block = Some size }
 with_setting options CheckOnly = options
 with_setting options (LoadFrom place) = options
+with_setting options Recursive = options
+with_setting options AllRoots = options
+with_setting options LoadFirst = options
+with_setting options Inherit = options
 
 abbrev pub options_with : List Setting → Options
 options_with settings = fold with_setting no_options settings

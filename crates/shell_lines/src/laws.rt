@@ -6,7 +6,7 @@ ghost use Rattle.dataset_tree.specs.declared.kinds.Format.TheVariants.{Hex, Pass
 ghost use Rattle.encryption_roots.specs.Options.{no_options};
 ghost use Rattle.encryption_roots.specs.declared.props.Location.TheVariants.{Prompt, File};
 ghost use Rattle.shell_lines.specs.declared.line.Line.{Line};
-ghost use Rattle.shell_lines.specs.declared.line.Line.TheVariants.{Silent, Create, LoadKey};
+ghost use Rattle.shell_lines.specs.declared.line.Line.TheVariants.{Silent, Create, LoadKey, LoadBelow, LoadAll, UnloadBelow, ChangeKey, InheritKey};
 ghost use Rattle.shell_lines.specs.Words.{words_of};
 ghost use Rattle.shell_lines.specs.Runs.{IsRun, IsInWord, StandFrom};
 ghost use Rattle.shell_lines.specs.Commands.{commands};
@@ -36,6 +36,13 @@ pub fn options_say_what_they_spell()
     ensures fetched { line_of (codes "load-key -L file:///k t") 0
         ≡ Ok (LoadKey (codes "t") false (Some (File (codes "/k")))) }
     ensures once { line_of (codes "load-key -n -n t") 0 ≡ Err 12 }
+    ensures below { line_of (codes "load-key -n -r t") 0 ≡ Ok (LoadBelow (codes "t") true) }
+    ensures everywhere { line_of (codes "load-key -a") 0 ≡ Ok (LoadAll false) }
+    ensures unloaded { line_of (codes "unload-key -r t") 0 ≡ Ok (UnloadBelow (codes "t")) }
+    ensures changed { line_of (codes "change-key -o keylocation=file:///k -l -o pbkdf2iters=100000 t") 0
+        ≡ Ok (ChangeKey (codes "t") (record no_options { place = Some (File (codes "/k")); iters = Some 100000 }) true) }
+    ensures inherited { line_of (codes "change-key -l -i t") 0 ≡ Ok (InheritKey (codes "t") true) }
+    ensures kept { line_of (codes "change-key -o keyformat=hex -i t") 0 ≡ Err 28 }
 {}
 
 /// The law of record sizes: that of a line, where it has one, is in form.

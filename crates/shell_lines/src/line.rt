@@ -55,9 +55,39 @@ pub enum Line {
         /// `-L`: where the key is fetched in place of the root's own location.
         place: Option<Location>,
     },
+    /// `load-key -r`, zero or one `-n`, `NAME`: the dataset and those below it.
+    LoadBelow {
+        name: Word,
+        /// `-n`: the keys are tested and not kept.
+        check_only: bool,
+    },
+    /// `load-key -a`, zero or one `-n`: all datasets.
+    LoadAll {
+        /// `-n`: the keys are tested and not kept.
+        check_only: bool,
+    },
     /// `unload-key NAME`
     UnloadKey {
         name: Word,
+    },
+    /// `unload-key -r NAME`: the dataset and those below it.
+    UnloadBelow {
+        name: Word,
+    },
+    /// `unload-key -a`: all datasets.
+    UnloadAll,
+    /// `change-key`, zero or one `-l`, options `-o KEY=VALUE`, `NAME`
+    ChangeKey {
+        name: Word,
+        opts: Options,
+        /// `-l`: the present key is fetched where it isn't loaded.
+        load_first: bool,
+    },
+    /// `change-key -i`, zero or one `-l`, `NAME`: the key of the parent is used.
+    InheritKey {
+        name: Word,
+        /// `-l`: the present key is fetched where it isn't loaded.
+        load_first: bool,
     },
     /// `get PROP NAME`
     Get {

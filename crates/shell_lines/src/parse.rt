@@ -1,14 +1,14 @@
 // From the bytes of a line to what it says.
-ghost use Rattle.std.specs.Prelude.{◌≡◌, ◌<◌, ◌^◌, ◌∷◌, [], List, ℕ, length, map, IfOk};
+ghost use Rattle.std.specs.Prelude.{◌≡◌, ◌<◌, ◌^◌, ◌∷◌, [], if◌then◌else◌, List, ℕ, Result, Some, None, length, map, IfOk};
 ghost use Rattle.std.specs.List.{list_any};
 ghost use Rattle.shell_lines.specs.declared.line.Line.{Line};
 ghost use Rattle.shell_lines.specs.Sized.{HasRecordSize};
 ghost use Rattle.shell_lines.specs.Grammar.{Spells, line_of, is_comment, first_unprintable};
 ghost use Rattle.std.specs.Str.{bytes_eq};
-ghost use Rattle.shell_lines.specs.Left.{words_left, end_of, placed, texts, Reads};
-ghost use Rattle.shell_lines.specs.Commands.{commands, create, create_form, load_key, load_form, get_form};
-ghost use Rattle.shell_lines.specs.Forms.{line_from, form_from, end_from};
-ghost use Rattle.shell_lines.specs.Reading.{word_from, a_name, a_property, property_of};
+ghost use Rattle.shell_lines.specs.Left.{words_left, end_of, read_by, placed, texts, Reads};
+ghost use Rattle.shell_lines.specs.Commands.{commands, create, create_form, load_key, load_form, load_below_form, load_all_form, unload_key, unload_form, unload_below_form, unload_all_form, change_key, change_form, inherit_form, get_form};
+ghost use Rattle.shell_lines.specs.Forms.{line_from, form_from, end_from, better};
+ghost use Rattle.shell_lines.specs.Reading.{word_from, a_name, a_property, the_word, property_of};
 
 use crate::line::{Line, LineStop, Word};
 use crate::option::{is_set, parse_options};
@@ -26,8 +26,25 @@ const CREATE_OPTIONS: [OptionKind; 5] = [
     OptionKind::RecordSize,
 ];
 
-/// The options of `load-key` with a name.
+/// The options of `load-key` of one dataset.
 const LOAD_OPTIONS: [OptionKind; 2] = [OptionKind::CheckOnly, OptionKind::LoadFrom];
+
+/// The options of `load-key -r`.
+const LOAD_BELOW_OPTIONS: [OptionKind; 2] = [OptionKind::CheckOnly, OptionKind::Recursive];
+
+/// The options of `load-key -a`.
+const LOAD_ALL_OPTIONS: [OptionKind; 2] = [OptionKind::CheckOnly, OptionKind::AllRoots];
+
+/// The options of `change-key` without `-i`.
+const CHANGE_OPTIONS: [OptionKind; 4] = [
+    OptionKind::LoadFirst,
+    OptionKind::KeyFormat,
+    OptionKind::KeyLocation,
+    OptionKind::Iterations,
+];
+
+/// The options of `change-key -i`.
+const INHERIT_OPTIONS: [OptionKind; 2] = [OptionKind::LoadFirst, OptionKind::Inherit];
 
 /// The line that these bytes spell, without its line feed, in a section of `inside` workers, or outside one where that is 0.
 ///
@@ -68,11 +85,7 @@ fn first_unprintable(bytes: &[u8]) -> Option<usize>
     bytes.iter().position(|byte| !matches!(byte, b' '..=b'~'))
 }
 
-fn parse_command(
-    alloc: Global,
-    command: PlacedWord<'_>,
-    mut words: Words<'_>,
-) -> Result<Line, LineStop>
+fn parse_command(alloc: Global, command: PlacedWord<'_>, words: Words<'_>) -> Result<Line, LineStop>
     ensures { Spells result (line_from (end_of words.entry) commands (placed command.entry ∷ words_left words.entry)) }
 {
     if command.text == b"create".as_slice() {
@@ -80,8 +93,9 @@ fn parse_command(
     } else if command.text == b"load-key".as_slice() {
         parse_load(alloc, words)
     } else if command.text == b"unload-key".as_slice() {
-        let name = parse_name(alloc, &[b"-r", b"-a"], &mut words)?;
-        parse_end(Some(Line::UnloadKey { name }), words)
+        parse_unload(alloc, words)
+    } else if command.text == b"change-key".as_slice() {
+        parse_change(alloc, words)
     } else if command.text == b"get".as_slice() {
         parse_get(alloc, words)
     } else if command.text == b"list".as_slice() {
@@ -101,8 +115,16 @@ fn parse_create(alloc: Global, mut words: Words<'_>) -> Result<Line, LineStop>
     parse_end(Some(Line::Create { name, opts }), words)
 }
 
+/// `load-key` in one of its forms
+fn parse_load(alloc: Global, words: Words<'_>) -> Result<Line, LineStop>
+    ensures { Spells result (read_by load_key words.entry) }
+{
+    let below_or_all = better(load_below(alloc, words), load_all(alloc, words));
+    better(load_one(alloc, words), below_or_all)
+}
+
 /// `load-key`, `-n` and `-L LOC` or one of them or none, `NAME`
-fn parse_load(alloc: Global, mut words: Words<'_>) -> Result<Line, LineStop>
+fn load_one(alloc: Global, mut words: Words<'_>) -> Result<Line, LineStop>
     ensures { Spells result
         (form_from (end_of words.entry) load_key.options load_form (words_left words.entry)) }
 {
@@ -118,6 +140,107 @@ fn parse_load(alloc: Global, mut words: Words<'_>) -> Result<Line, LineStop>
         }),
         words,
     )
+}
+
+/// `load-key -r`, `-n` or none, `NAME`
+fn load_below(alloc: Global, mut words: Words<'_>) -> Result<Line, LineStop>
+    ensures { Spells result
+        (form_from (end_of words.entry) load_key.options load_below_form (words_left words.entry)) }
+{
+    let settings = parse_options(alloc, &LOAD_BELOW_OPTIONS, &mut words)?;
+    let name = parse_name(alloc, &[b"-n", b"-L", b"-r", b"-a"], &mut words)?;
+    let check_only = is_set(&settings, OptionKind::CheckOnly);
+    let line = Line::LoadBelow { name, check_only };
+    parse_end(
+        made_if(is_set(&settings, OptionKind::Recursive), line),
+        words,
+    )
+}
+
+/// `load-key -a`, `-n` or none
+fn load_all(alloc: Global, mut words: Words<'_>) -> Result<Line, LineStop>
+    ensures { Spells result
+        (form_from (end_of words.entry) load_key.options load_all_form (words_left words.entry)) }
+{
+    let settings = parse_options(alloc, &LOAD_ALL_OPTIONS, &mut words)?;
+    let check_only = is_set(&settings, OptionKind::CheckOnly);
+    let line = Line::LoadAll { check_only };
+    parse_end(
+        made_if(is_set(&settings, OptionKind::AllRoots), line),
+        words,
+    )
+}
+
+/// `unload-key` in one of its forms
+fn parse_unload(alloc: Global, words: Words<'_>) -> Result<Line, LineStop>
+    ensures { Spells result (read_by unload_key words.entry) }
+{
+    let below_or_all = better(unload_below(alloc, words), unload_all(words));
+    better(unload_one(alloc, words), below_or_all)
+}
+
+/// `unload-key NAME`
+fn unload_one(alloc: Global, mut words: Words<'_>) -> Result<Line, LineStop>
+    ensures { Spells result
+        (form_from (end_of words.entry) unload_key.options unload_form (words_left words.entry)) }
+{
+    let name = parse_name(alloc, &[b"-r", b"-a"], &mut words)?;
+    parse_end(Some(Line::UnloadKey { name }), words)
+}
+
+/// `unload-key -r NAME`
+fn unload_below(alloc: Global, mut words: Words<'_>) -> Result<Line, LineStop>
+    ensures { Spells result
+        (form_from (end_of words.entry) unload_key.options unload_below_form (words_left words.entry)) }
+{
+    parse_word(b"-r", &mut words)?;
+    let name = parse_name(alloc, &[b"-r", b"-a"], &mut words)?;
+    parse_end(Some(Line::UnloadBelow { name }), words)
+}
+
+/// `unload-key -a`
+fn unload_all(mut words: Words<'_>) -> Result<Line, LineStop>
+    ensures { Spells result
+        (form_from (end_of words.entry) unload_key.options unload_all_form (words_left words.entry)) }
+{
+    parse_word(b"-a", &mut words)?;
+    parse_end(Some(Line::UnloadAll), words)
+}
+
+/// `change-key` in one of its forms
+fn parse_change(alloc: Global, words: Words<'_>) -> Result<Line, LineStop>
+    ensures { Spells result (read_by change_key words.entry) }
+{
+    better(change_key(alloc, words), inherit_key(alloc, words))
+}
+
+/// `change-key`, `-l` or none, options, `NAME`
+fn change_key(alloc: Global, mut words: Words<'_>) -> Result<Line, LineStop>
+    ensures { Spells result
+        (form_from (end_of words.entry) change_key.options change_form (words_left words.entry)) }
+{
+    let settings = parse_options(alloc, &CHANGE_OPTIONS, &mut words)?;
+    let name = parse_name(alloc, &[b"-o", b"-l", b"-i"], &mut words)?;
+    let load_first = is_set(&settings, OptionKind::LoadFirst);
+    let opts = options_with(settings);
+    let line = Line::ChangeKey {
+        name,
+        opts,
+        load_first,
+    };
+    parse_end(Some(line), words)
+}
+
+/// `change-key -i`, `-l` or none, `NAME`
+fn inherit_key(alloc: Global, mut words: Words<'_>) -> Result<Line, LineStop>
+    ensures { Spells result
+        (form_from (end_of words.entry) change_key.options inherit_form (words_left words.entry)) }
+{
+    let settings = parse_options(alloc, &INHERIT_OPTIONS, &mut words)?;
+    let name = parse_name(alloc, &[b"-o", b"-l", b"-i"], &mut words)?;
+    let load_first = is_set(&settings, OptionKind::LoadFirst);
+    let line = Line::InheritKey { name, load_first };
+    parse_end(made_if(is_set(&settings, OptionKind::Inherit), line), words)
 }
 
 /// `get PROP NAME`
@@ -147,6 +270,21 @@ fn is_option(options: &[&[u8]], word: &[u8]) -> bool
     ensures { result ≡ list_any (λ option. bytes_eq option word.now) (texts options.now) }
 {
     options.contains(&word)
+}
+
+/// The word that has to stand next.
+fn parse_word(text: &[u8], words: &mut Words<'_>) -> Result<(), LineStop>
+    ensures reads { Reads result (words_left words.new) (word_from (end_of words.old) [] (the_word text.now) (words_left words.old)) }
+    ensures end { end_of words.new ≡ end_of words.old }
+{
+    let Some(word) = words.next() else {
+        return Err(words.missing());
+    };
+    if word.text == text {
+        Ok(())
+    } else {
+        Err(word.wrong())
+    }
 }
 
 /// The property that stands next.
@@ -186,6 +324,26 @@ fn property_of(word: &[u8]) -> Option<Prop>
         return Some(Prop::RecordSize);
     }
     None
+}
+
+/// The line where the option that makes it stands, else nothing.
+fn made_if(stands: bool, line: Line) -> Option<Line>
+    ensures { result ≡ (if stands then Some line else None) }
+{
+    if stands { Some(line) } else { None }
+}
+
+/// Of what two forms make of the same words a line, else the stop that comes later.
+fn better(first: Result<Line, LineStop>, other: Result<Line, LineStop>) -> Result<Line, LineStop>
+    ensures { (one two : Result Line ℕ) → Spells first one → Spells other two → Spells result (better one two) }
+{
+    match (first, other) {
+        (Ok(line), _) | (Err(LineStop::Bad { .. }), Ok(line)) => Ok(line),
+        (Err(LineStop::Bad { at }), Err(LineStop::Bad { at: place })) => {
+            Err(LineStop::Bad { at: at.max(place) })
+        }
+        _ => Err(LineStop::NoMemory),
+    }
 }
 
 /// What the words in front make, where no word is left: `None` lacks a word.

@@ -2,7 +2,7 @@
 ghost use Rattle.std.specs.Prelude.{◌≡◌, ◌≤◌, IfOk, MatchOption, length};
 ghost use Rattle.std.specs.declared.option.Option.TheVariants.{Some as Found, None as Missing};
 ghost use Rattle.std.specs.Option.{option_copied};
-ghost use Rattle.shell_lines.specs.Settings.{dash, key, kind_of, with_setting, with_place, behind, decimal_of, number_of, location_of, suite_value, format_value, place_value, iterations_value, record_size_value, key_value, load_from, setting_of, options_with, load_place};
+ghost use Rattle.shell_lines.specs.Settings.{dash, key, kind_of, with_setting, with_place, behind, decimal_of, number_of, location_of, suite_value, format_value, place_value, iterations_value, record_size_value, key_value, load_from, lone_setting, setting_of, options_with, load_place};
 
 use dataset_tree::{Format, Suite};
 use encryption_roots::{Location, Options, PathText};
@@ -25,6 +25,14 @@ pub(crate) enum OptionKind {
     CheckOnly,
     /// `-L LOC`
     LoadFrom,
+    /// `-r`
+    Recursive,
+    /// `-a`
+    AllRoots,
+    /// `-l`
+    LoadFirst,
+    /// `-i`
+    Inherit,
 }
 
 impl OptionKind {
@@ -40,6 +48,10 @@ impl OptionKind {
             | OptionKind::RecordSize => b"-o",
             OptionKind::CheckOnly => b"-n",
             OptionKind::LoadFrom => b"-L",
+            OptionKind::Recursive => b"-r",
+            OptionKind::AllRoots => b"-a",
+            OptionKind::LoadFirst => b"-l",
+            OptionKind::Inherit => b"-i",
         }
     }
 
@@ -55,6 +67,10 @@ impl OptionKind {
             OptionKind::RecordSize => b"recordsize",
             OptionKind::CheckOnly => b"-n",
             OptionKind::LoadFrom => b"-L",
+            OptionKind::Recursive => b"-r",
+            OptionKind::AllRoots => b"-a",
+            OptionKind::LoadFirst => b"-l",
+            OptionKind::Inherit => b"-i",
         }
     }
 }
@@ -73,6 +89,14 @@ pub(crate) enum Setting {
     CheckOnly,
     /// Where the key is fetched in place of the root's own location.
     LoadFrom(Location),
+    /// The dataset and those below it.
+    Recursive,
+    /// All datasets.
+    AllRoots,
+    /// The present key is fetched where it isn't loaded.
+    LoadFirst,
+    /// The key of the parent is used.
+    Inherit,
 }
 
 impl Setting {
@@ -88,6 +112,10 @@ impl Setting {
             Setting::RecordSize(_) => OptionKind::RecordSize,
             Setting::CheckOnly => OptionKind::CheckOnly,
             Setting::LoadFrom(_) => OptionKind::LoadFrom,
+            Setting::Recursive => OptionKind::Recursive,
+            Setting::AllRoots => OptionKind::AllRoots,
+            Setting::LoadFirst => OptionKind::LoadFirst,
+            Setting::Inherit => OptionKind::Inherit,
         }
     }
 
@@ -116,7 +144,12 @@ impl Setting {
                 block: Some(size),
                 ..options
             },
-            Setting::CheckOnly | Setting::LoadFrom(_) => options,
+            Setting::CheckOnly
+            | Setting::LoadFrom(_)
+            | Setting::Recursive
+            | Setting::AllRoots
+            | Setting::LoadFirst
+            | Setting::Inherit => options,
         }
     }
 
@@ -153,10 +186,22 @@ pub(crate) fn parse_setting(
 
 /// The setting that a word spells without another one behind it.
 fn parse_lone(word: &[u8]) -> Option<Setting>
-    ensures { result ≡ setting_of word.now Missing }
+    ensures { result ≡ lone_setting word.now }
 {
     if word == b"-n".as_slice() {
         return Some(Setting::CheckOnly);
+    }
+    if word == b"-r".as_slice() {
+        return Some(Setting::Recursive);
+    }
+    if word == b"-a".as_slice() {
+        return Some(Setting::AllRoots);
+    }
+    if word == b"-l".as_slice() {
+        return Some(Setting::LoadFirst);
+    }
+    if word == b"-i".as_slice() {
+        return Some(Setting::Inherit);
     }
     None
 }

@@ -7,7 +7,7 @@ use std::alloc::Global;
 use std::test::Fail;
 
 /// Lines that aren't in the language, and the offset at which each is bad.
-const BAD_LINES: [(&[u8], u32); 35] = [
+const BAD_LINES: [(&[u8], u32); 47] = [
     (b"frob tank", 0),
     (b" #x", 1),
     (b"create  ", 8),
@@ -34,10 +34,22 @@ const BAD_LINES: [(&[u8], u32); 35] = [
     (b"load-key -L", 11),
     (b"load-key -L x tank", 12),
     (b"load-key -L prompt -L prompt tank", 19),
-    (b"load-key -a", 9),
-    (b"unload-key -r tank", 11),
-    (b"unload-key -a", 11),
+    (b"load-key -a tank", 12),
+    (b"load-key -n -r", 14),
+    (b"load-key -r -a", 12),
+    (b"load-key -r -L prompt tank", 12),
+    (b"load-key -L prompt -r tank", 19),
+    (b"unload-key -r", 13),
+    (b"unload-key -r -a", 14),
+    (b"unload-key -a tank", 14),
     (b"unload-key -n x", 14),
+    (b"change-key -l", 13),
+    (b"change-key -l -l tank", 14),
+    (b"change-key tank -l", 16),
+    (b"change-key -o encryption=on tank", 14),
+    (b"change-key -o recordsize=512 tank", 14),
+    (b"change-key -i -o keyformat=hex tank", 14),
+    (b"change-key -o keyformat=hex -i tank", 28),
     (b"get", 3),
     (b"get foo tank", 4),
     (b"get keystatus", 13),
@@ -123,18 +135,48 @@ fn a_key_is_loaded_as_the_options_say(rt: HostRuntime) -> Result<(), Fail> {
     Ok(())
 }
 
+/// Lines about keys: the form of each, and whether `-n` or `-l` stands in it.
+const KEY_LINES: [(&[u8], &[u8], bool); 13] = [
+    (b"load-key -o", b"load", false),
+    (b"load-key -r tank", b"load below", false),
+    (b"load-key -n -r tank", b"load below", true),
+    (b"load-key -a", b"load all", false),
+    (b"load-key -a -n", b"load all", true),
+    (b"unload-key -n", b"unload", false),
+    (b"unload-key -r tank", b"unload below", false),
+    (b"unload-key -a", b"unload all", false),
+    (b"change-key tank", b"change", false),
+    (b"change-key -o keyformat=hex -l tank", b"change", true),
+    (b"change-key -i tank", b"inherit", false),
+    (b"change-key -i -l tank", b"inherit", true),
+    (b"change-key -l -i tank", b"inherit", true),
+];
+
+fn form_of(line: &Line) -> (&[u8], bool) {
+    match line {
+        Line::LoadKey { check_only, .. } => (b"load", *check_only),
+        Line::LoadBelow { check_only, .. } => (b"load below", *check_only),
+        Line::LoadAll { check_only } => (b"load all", *check_only),
+        Line::UnloadKey { .. } => (b"unload", false),
+        Line::UnloadBelow { .. } => (b"unload below", false),
+        Line::UnloadAll => (b"unload all", false),
+        Line::ChangeKey { load_first, .. } => (b"change", *load_first),
+        Line::InheritKey { load_first, .. } => (b"inherit", *load_first),
+        _ => (b"other", false),
+    }
+}
+
 #[test]
 fn each_command_has_a_line(rt: HostRuntime) -> Result<(), Fail> {
     let alloc = rt.alloc();
     assert!(rt; matches!(parse_line(alloc, b"", 0)?, Line::Silent));
     assert!(rt; matches!(parse_line(alloc, b"<\x00\xff", 2)?, Line::Silent));
-    assert!(rt; matches!(parse_line(alloc, b"load-key -o", 0)?, Line::LoadKey { .. }));
-    assert!(rt;
-        matches!(
-            parse_line(alloc, b"unload-key -n", 0)?,
-            Line::UnloadKey { .. }
-        )
-    );
+    for (bytes, form, flag) in KEY_LINES {
+        assert!(rt; bytes.len() < 100);
+        let line = parse_line(alloc, bytes, 0)?;
+        assert_eq!(rt; form_of(&line).0, form, "at {bytes:?}");
+        assert_eq!(rt; form_of(&line).1, flag, "at {bytes:?}");
+    }
     assert!(rt; matches!(parse_line(alloc, b"get encryption a", 0)?, Line::Get { .. }));
     assert!(rt; matches!(parse_line(alloc, b"  list ", 0)?, Line::List));
     bad_at_the_first_wrong_word();
