@@ -61,13 +61,16 @@ unless_told_wrong (Err why) wrong = Err why
 -- ---- the key of a parent's owner, where it is loaded
 
 abbrev pub loaded_above : Plain → ℕ → Option (List ℕ)
-loaded_above p id = option_and_then (λ root. at_id root p.loaded) (option_and_then (λ parent. owner_of p parent.id) (row_above p (row_of id p.tree.rows)))
+loaded_above p id =
+    option_and_then (λ root. at_id root p.loaded)
+    (option_and_then (λ parent. owner_of p parent.id) (row_above p (row_of id p.tree.rows)))
 
 -- ---- the new key
 
 -- the new key of a dataset with these properties, and the seed; the salt comes of the seed
 abbrev pub new_key_of : Ciphers → Option Props → Options → LineKit → Result (List ℕ) Why
-new_key_of c own opts kit = key_of c (changed_format own opts) (changed_iters own opts) (changed_salt c own opts (seed_of kit.seed)) kit.new_key
+new_key_of c own opts kit =
+    key_of c (changed_format own opts) (changed_iters own opts) (changed_salt c own opts (seed_of kit.seed)) kit.new_key
 
 -- the salt of a key in this format
 abbrev pub salt_for : Ciphers → Format → (seed : List ℕ) → ℕ

@@ -9,7 +9,8 @@ use Rattle.key_machine.specs.Plain.{Plain, Master, Ciphers}
 
 -- the master key to which a family's record opens
 abbrev pub opened_in : Ciphers → Plain → (key : List ℕ) → ℕ → Option Master
-opened_in c p key family = option_and_then (λ wrapped. c.opens wrapped key) (option_map (λ stored. stored.wrapped) (at_id family p.wrapped))
+opened_in c p key family =
+    option_and_then (λ wrapped. c.opens wrapped key) (option_map (λ stored. stored.wrapped) (at_id family p.wrapped))
 
 abbrev pub opens_in : Ciphers → Plain → (key : List ℕ) → ℕ → Bool
 opens_in c p key family = is_some (opened_in c p key family)
@@ -24,7 +25,8 @@ sealed_in c p old new vector family = sealed_from c new vector (opened_in c p ol
 
 -- that with the vector of a number
 abbrev pub anew : Ciphers → Plain → (seed old new : List ℕ) → (number family : ℕ) → ℕ × List ℕ
-anew c p seed old new number family = (family, sealed_in c p old new (c.seed_bytes seed (vector_place number) 12) family)
+anew c p seed old new number family =
+    (family, sealed_in c p old new (c.seed_bytes seed (vector_place number) 12) family)
 
 -- what is made of each of these ids and its number, from this one on
 abbrev pub numbered : {X : Type 0} → (ℕ → ℕ → X) → ℕ → List ℕ → List X

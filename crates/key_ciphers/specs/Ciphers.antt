@@ -1,5 +1,5 @@
--- The ciphers that are given to the definitions of the machine: key records, the wrapping key of key material, and the words of a
--- seed.
+-- The ciphers that are given to the definitions of the machine: key records, the wrapping key of key
+-- material, and the words of a seed.
 use Rattle.std.specs.Prelude.{◌^◌, nat_lt, if◌then◌else◌, Option, Some, None}
 use Rattle.std.specs.Option.{option_map, option_and_then}
 use Rattle.key_formats.specs.WrappingKey.{wkey}

@@ -8,8 +8,8 @@ use dataset_tree::{Format, Refusal};
 use encryption_roots::Fetched;
 use key_formats::{material_fault, wrapping_key};
 
-/// The wrapping key of 32 bytes that fetched material gives in a key format. For a passphrase it is derived with `iters` iterations
-/// of PBKDF2 and `salt`, which other formats don't use.
+/// The wrapping key of 32 bytes that fetched material gives in a key format. For a passphrase it is derived
+/// with `iters` iterations of PBKDF2 and `salt`, which other formats don't use.
 ///
 /// # Errors
 /// As `fetched_fault` tells them.
@@ -28,8 +28,9 @@ pub fn fetched_key(
     }
 }
 
-/// Why what was fetched gives no wrapping key, which takes no derivation: `KeyFileMissing` where there is no such file, `KeyFault`
-/// where it couldn't be read or wasn't asked for, and `BadIters` or `BadMaterial` where the material is no key in its format.
+/// Why what was fetched gives no wrapping key, which takes no derivation: `KeyFileMissing` where there is no
+/// such file, `KeyFault` where it couldn't be read or wasn't asked for, and `BadIters` or `BadMaterial` where
+/// the material is no key in its format.
 pub fn fetched_fault(format: Format, iters: u32, fetched: &Fetched) -> Option<Refusal>
     ensures { (salt : ℕ) → result ≡ result_err (key_of ciphers format iters salt fetched.now) }
 {

@@ -10,7 +10,8 @@ use dataset_tree::{RecordBytes, Suite};
 use salt_rotation::SeedWords;
 use wrapped_keys::{KeyRecord, MasterKey, unwrap, wrap};
 
-/// The master key of a stored record under a wrapping key: `None` where these are no record's bytes, or its tag differs.
+/// The master key of a stored record under a wrapping key: `None` where these are no record's bytes, or its
+/// tag differs.
 pub fn opened(stored: &RecordBytes, key: &[u8; 32]) -> Option<MasterKey>
     ensures { option_map master_of result ≡ ciphers.opens stored.now key.now }
 {
@@ -18,7 +19,8 @@ pub fn opened(stored: &RecordBytes, key: &[u8; 32]) -> Option<MasterKey>
     unwrap(&record, key).ok()
 }
 
-/// The stored record of the master key that a seed makes, under a wrapping key and the seed's first initialization vector.
+/// The stored record of the master key that a seed makes, under a wrapping key and the seed's first
+/// initialization vector.
 pub fn seeded_record(seed: &SeedWords, suite: Suite, key: &[u8; 32]) -> RecordBytes
     ensures sealed { result ≡ seeded_record ciphers suite seed.now key.now }
     ensures opens { ciphers.opens result key.now ≡ Some (seeded_master ciphers suite seed.now) }

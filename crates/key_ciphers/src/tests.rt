@@ -9,8 +9,9 @@ const SEED: [u8; 32] = *b"a seed of thirty-two bytes, here";
 
 const KEY: [u8; 32] = *b"a key of thirty-two bytes, there";
 
-// By AESGCM of Python's `cryptography` over words of a ChaCha20 written in Python after RFC 8439, with a block counter of 64 bits:
-// guid at place 24, suite and version, vector at 36, tag, and the sealed master key at 0 and HMAC key at 8.
+// By AESGCM of Python's `cryptography` over words of a ChaCha20 written in Python after RFC 8439, with a
+// block counter of 64 bits: guid at place 24, suite and version, vector at 36, tag, and the sealed master key
+// at 0 and HMAC key at 8.
 const RECORD: [u8; 134] = [
     0x48, 0x67, 0x0c, 0x13, 0x58, 0x45, 0x06, 0x7c, 0x08, 0x01, 0x04, 0x4f, 0x31, 0x05, 0x1e, 0x55,
     0x2d, 0xf5, 0x69, 0x50, 0xe7, 0x00, 0x4e, 0xd2, 0xd8, 0x41, 0x1f, 0x25, 0x15, 0xd4, 0x43, 0xa9,
@@ -23,8 +24,8 @@ const RECORD: [u8; 134] = [
     0x84, 0x7a, 0xe8, 0xe6, 0xba, 0xe7,
 ];
 
-// By `hashlib.pbkdf2_hmac` of Python: SHA-1, "correct horse", the eight bytes of the seed's words at the places 34 and 35,
-// 100000 iterations.
+// By `hashlib.pbkdf2_hmac` of Python: SHA-1, "correct horse", the eight bytes of the seed's words at the
+// places 34 and 35, 100000 iterations.
 const DERIVED: [u8; 32] = [
     0xb3, 0x79, 0xea, 0xad, 0x32, 0xdd, 0x75, 0x38, 0x1a, 0xa2, 0x8f, 0xbb, 0xfc, 0x28, 0x29, 0x5f,
     0xeb, 0xcb, 0xa8, 0x1b, 0xa1, 0xc6, 0x8f, 0x62, 0x97, 0xca, 0x8f, 0xbe, 0x4a, 0xcd, 0x56, 0xd9,

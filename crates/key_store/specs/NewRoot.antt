@@ -16,7 +16,8 @@ use Rattle.key_store.specs.declared.state.FamilyRecord.{FamilyRecord}
 use Rattle.key_ciphers.specs.Ciphers.{ciphers}
 use Rattle.key_store.specs.State.{stored_of}
 
--- What is told is no fault, and is this record, behind the last id, which opens under the key; record and record size are in form.
+-- What is told is no fault, and is this record, behind the last id, which opens under the key; record and
+-- record size are in form.
 pub record IsToldFamily (last : ℕ) (opts : Options) (facts : Told) (key : List ℕ) (family : FamilyRecord) : Type 0 where
   pub no_fault : facts.fault ≡ None
   pub written : facts.wrapped ≡ (last + 1, family.wrapped) ∷ []

@@ -20,7 +20,8 @@ stored_records records = map (λ entry. (entry.0, stored_of entry.1)) records
 
 -- a family's record, with the bytes that are written for it, of several the first
 abbrev pub with_written : List (ℕ × List ℕ) → ℕ × FamilyRecord → ℕ × FamilyRecord
-with_written written entry = (entry.0, record { wrapped = unwrap_or (at_id entry.0 written) entry.1.wrapped; block = entry.1.block })
+with_written written entry =
+    (entry.0, record { wrapped = unwrap_or (at_id entry.0 written) entry.1.wrapped; block = entry.1.block })
 
 -- Nothing is mapped yet.
 abbrev pub plain_of : Inside → Plain
@@ -41,7 +42,8 @@ pub record HasRoom (s : Inside) : Type 0 where
   pub records : 32 ≤ vec_capacity s.records
   pub loaded : 256 ≤ vec_capacity s.loaded
 
--- The plain state is sound; its records, its record sizes and the properties of its roots are in form; and there is room.
+-- The plain state is sound; its records, its record sizes and the properties of its roots are in form; and
+-- there is room.
 pub record IsKept (s : Inside) : Type 0 where
   pub sound : Sound ciphers (plain_of s)
   pub records : All (λ entry. is_some (parsed_record entry.1.wrapped) ≡ true) s.records.items

@@ -37,17 +37,21 @@ pub(crate) struct NewRoot {
 }
 
 impl KeyState {
-    /// Makes a dataset and gives its id: an encryption root where the options have a key format, else below an encrypted dataset
-    /// one that uses its parent's key, else a plain one. A root's key is loaded, and a key opens the record of what is encrypted.
+    /// Makes a dataset and gives its id: an encryption root where the options have a key format, else below
+    /// an encrypted dataset one that uses its parent's key, else a plain one. A root's key is loaded, and a
+    /// key opens the record of what is encrypted.
     ///
     /// # Errors
-    /// Those of `needs`, then `KeyFileMissing` or `KeyFault` at the fetch, `BadMaterial`, and `EntropyFault`, before which no key
-    /// is derived. What the kit wasn't asked for counts as a taking that failed. After an `Err` all is as before.
+    /// Those of `needs`, then `KeyFileMissing` or `KeyFault` at the fetch, `BadMaterial`, and `EntropyFault`,
+    /// before which no key is derived. What the kit wasn't asked for counts as a taking that failed. After an
+    /// `Err` all is as before.
     pub fn create(&mut self, name: &SetName, opts: &Options, kit: &LineKit) -> Result<u32, Stop>
         requires record_size { IfSome opts.now.block IsRecordSize }
         ensures reply { AnswersMade result (stepped self.old (commands.Create name.now opts.now) kit.now).reply }
-        ensures state { self.new ≡ state_after result self.old (stepped self.old (commands.Create name.now opts.now) kit.now).state }
-        ensures opens { IfOk result (λ id. makes_encrypted self.old name.now opts.now ≡ true → is_some (mkey ciphers self.new id) ≡ true) }
+        ensures state { self.new ≡ state_after result self.old
+            (stepped self.old (commands.Create name.now opts.now) kit.now).state }
+        ensures opens { IfOk result (λ id. makes_encrypted self.old name.now opts.now ≡ true
+            → is_some (mkey ciphers self.new id) ≡ true) }
         ensures unchanged { OnErr result (self.new ≡ self.old) }
     {
         if let Some(why) = self.create_refusal(name, opts) {
@@ -68,7 +72,8 @@ impl KeyState {
         requires no_root { opts.now.format ≡ None }
         requires no_heir { is_below_encrypted self.old name.now ≡ false }
         ensures reply { AnswersMade result (stepped self.old (commands.Create name.now opts.now) kit.now).reply }
-        ensures state { self.new ≡ state_after result self.old (stepped self.old (commands.Create name.now opts.now) kit.now).state }
+        ensures state { self.new ≡ state_after result self.old
+            (stepped self.old (commands.Create name.now opts.now) kit.now).state }
         ensures unchanged { OnErr result (self.new ≡ self.old) }
     {
         let id = add_free(&mut self.tree, name, Kind::Plain)?;
@@ -81,7 +86,8 @@ impl KeyState {
         requires heir { makes_heir self.old name.now opts.now ≡ true }
         requires record_size { IfSome opts.now.block IsRecordSize }
         ensures reply { AnswersMade result (stepped self.old (commands.Create name.now opts.now) kit.now).reply }
-        ensures state { self.new ≡ state_after result self.old (stepped self.old (commands.Create name.now opts.now) kit.now).state }
+        ensures state { self.new ≡ state_after result self.old
+            (stepped self.old (commands.Create name.now opts.now) kit.now).state }
         ensures opens { IfOk result (λ id. is_some (mkey ciphers self.new id) ≡ true) }
         ensures unchanged { OnErr result (self.new ≡ self.old) }
     {
@@ -103,7 +109,9 @@ impl KeyState {
     ) -> Result<FamilyRecord, Refusal>
         requires heir { makes_heir self.now name.now opts.now ≡ true }
         requires record_size { IfSome opts.now.block IsRecordSize }
-        ensures { GivesHeir self.now.tree.last opts.now (told ciphers self.now (commands.Create name.now opts.now) kit.now) (parent_key self.now (parent_row self.now name.now)) result }
+        ensures { GivesHeir self.now.tree.last opts.now
+            (told ciphers self.now (commands.Create name.now opts.now) kit.now)
+            (parent_key self.now (parent_row self.now name.now)) result }
     {
         let seed = match seed_got(kit.seed) {
             Ok(seed) => SeedWords::new(seed),
@@ -126,7 +134,9 @@ impl KeyState {
     }
 
     fn loaded_above(&self, name: &SetName) -> Option<&[u8; 32]>
-        ensures { option_copied result ≡ option_and_then (λ root. at_id root self.now.loaded) (option_and_then (λ parent. owner_of self.now parent.id) (parent_row self.now name.now)) }
+        ensures { option_copied result
+            ≡ option_and_then (λ root. at_id root self.now.loaded)
+            (option_and_then (λ parent. owner_of self.now parent.id) (parent_row self.now name.now)) }
     {
         let parent = self.parent_row(name)?;
         let root = owner_of(&self.tree, &self.roots, parent.id)?;
@@ -145,7 +155,8 @@ impl KeyState {
         requires root { opts.now.format ≡ Some format }
         requires record_size { IfSome opts.now.block IsRecordSize }
         ensures reply { AnswersMade result (stepped self.old (commands.Create name.now opts.now) kit.now).reply }
-        ensures state { self.new ≡ state_after result self.old (stepped self.old (commands.Create name.now opts.now) kit.now).state }
+        ensures state { self.new ≡ state_after result self.old
+            (stepped self.old (commands.Create name.now opts.now) kit.now).state }
         ensures opens { IfOk result (λ id. is_some (mkey ciphers self.new id) ≡ true) }
         ensures unchanged { OnErr result (self.new ≡ self.old) }
     {
@@ -170,7 +181,8 @@ impl KeyState {
         requires accepted { refusal_of self.now (commands.Create name.now opts.now) ≡ None }
         requires root { opts.now.format ≡ Some format }
         requires record_size { IfSome opts.now.block IsRecordSize }
-        ensures root { IfOk result (λ root. IsToldRoot self.now.tree.last opts.now (told ciphers self.now (commands.Create name.now opts.now) kit.now) root) }
+        ensures root { IfOk result (λ root. IsToldRoot self.now.tree.last opts.now
+            (told ciphers self.now (commands.Create name.now opts.now) kit.now) root) }
         ensures fault { TellsFault (told ciphers self.now (commands.Create name.now opts.now) kit.now) result }
     {
         let seed = match seed_behind_key(format, new_iters(opts), kit) {
@@ -213,7 +225,13 @@ impl KeyState {
 fn new_props(format: Format, opts: &Options, seed: &SeedWords) -> Result<Props, NoMemory>
     requires root { opts.now.format ≡ Some format }
     requires iterations { are_bad_iterations opts.now.iters ≡ false }
-    ensures props { IfOk result (λ props. props ≡ record { format = format; place = unwrap_or opts.now.place Location.Prompt; iters = new_iters opts.now; salt = new_salt ciphers opts.now (Ok seed.now) }) }
+    ensures props { IfOk result (λ props. props
+        ≡ record {
+          format = format;
+          place = unwrap_or opts.now.place Location.Prompt;
+          iters = new_iters opts.now;
+          salt = new_salt ciphers opts.now (Ok seed.now);
+        }) }
     ensures kept { IfOk result KeepsIterations }
 {
     let place = place_or_prompt(opts.place.as_ref())?;

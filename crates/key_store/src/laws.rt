@@ -10,7 +10,8 @@ use crate::state::KeyState;
 
 /// Each command keeps a sound state sound, whatever its kit.
 pub fn commands_keep_soundness()
-    ensures { (p : Plain) (command : Command) (kit : Kit) → Sound ciphers p → Sound ciphers (stepped p command kit).state }
+    ensures { (p : Plain) (command : Command) (kit : Kit) → Sound ciphers p
+        → Sound ciphers (stepped p command kit).state }
 {}
 
 /// The state of a keystore is sound.

@@ -1,7 +1,7 @@
 //! The keystore: a host's datasets with their encryption roots, key records and loaded wrapping keys.
 //!
-//! Contracts see a `KeyState` as the plain state of `key_machine`, and each command is the machine's step under what the
-//! line's material tells. A state is sound, whatever commands it went through.
+//! Contracts see a `KeyState` as the plain state of `key_machine`, and each command is the machine's step
+//! under what the line's material tells. A state is sound, whatever commands it went through.
 #![tactic(auto)]
 
 mod create;

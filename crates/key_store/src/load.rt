@@ -19,16 +19,20 @@ use encryption_roots::{LineKit, Props, owner_of, put_at_id, remove_at_id};
 use key_ciphers::{fetched_key, opened};
 
 impl KeyState {
-    /// Loads the key of a root, where every record that the root owns opens under it, by the root's own key format, iterations
-    /// and salt. With `check_only` nothing changes, and the key may be loaded. From which place the key was fetched doesn't
-    /// show here.
+    /// Loads the key of a root, where every record that the root owns opens under it, by the root's own key
+    /// format, iterations and salt. With `check_only` nothing changes, and the key may be loaded. From which
+    /// place the key was fetched doesn't show here.
     ///
     /// # Errors
-    /// `NoSuch`, `NotEncrypted`, `NotRoot`, `KeyLoaded` (not with `check_only`), `KeyFileMissing` or `KeyFault` at the fetch,
-    /// `BadMaterial`, and `WrongKey` of the first record, by id, that doesn't open. After an `Err` all is as before.
+    /// `NoSuch`, `NotEncrypted`, `NotRoot`, `KeyLoaded` (not with `check_only`), `KeyFileMissing` or
+    /// `KeyFault` at the fetch, `BadMaterial`, and `WrongKey` of the first record, by id, that doesn't open.
+    /// After an `Err` all is as before.
     pub fn load(&mut self, name: &SetName, check_only: bool, kit: &LineKit) -> Result<(), Stop>
-        ensures reply { (place : Option Place) → AnswersDone result (stepped self.old (commands.Load name.now check_only place) kit.now).reply }
-        ensures state { (place : Option Place) → self.new ≡ state_after result self.old (stepped self.old (commands.Load name.now check_only place) kit.now).state }
+        ensures reply { (place : Option Place)
+            → AnswersDone result (stepped self.old (commands.Load name.now check_only place) kit.now).reply }
+        ensures state { (place : Option Place)
+            → self.new ≡ state_after result self.old
+            (stepped self.old (commands.Load name.now check_only place) kit.now).state }
         ensures unchanged { OnErr result (self.new ≡ self.old) }
     {
         let root = match self.load_root(name, check_only) {
@@ -93,7 +97,8 @@ impl KeyState {
     pub fn unload(&mut self, name: &SetName) -> Result<(), Refusal>
         ensures reply { AnswersUnloaded result (key_step self.old (commands.Unload name.now) nothing_told).reply }
         ensures state { self.new ≡ (key_step self.old (commands.Unload name.now) nothing_told).state }
-        ensures key_alone { OnOk result ((root : ℕ) → id_named name.now self.old.tree.rows ≡ Some root → self.new ≡ record self.old { loaded = without_id root self.old.loaded }) }
+        ensures key_alone { OnOk result ((root : ℕ) → id_named name.now self.old.tree.rows ≡ Some root
+            → self.new ≡ record self.old { loaded = without_id root self.old.loaded }) }
         ensures unchanged { OnErr result (self.new ≡ self.old) }
     {
         let root = match self.unload_root(name) {

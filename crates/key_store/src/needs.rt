@@ -58,13 +58,14 @@ impl KeyState {
     /// What a command needs.
     ///
     /// # Errors
-    /// The refusal that the state decides, the first in the command's order. `create`: `Exists`, `NoParent`, `BadOptions`,
-    /// `BadIters`, `KeyUnavailable`, `Full` (datasets, ids, families). `load` and `unload`: `NoSuch`, `NotEncrypted`, `NotRoot`,
-    /// then `KeyLoaded` or `KeyUnavailable`. `get`: `NoSuch`. A change of the key: `NoSuch`, `NotEncrypted`, `IsClone`,
-    /// `BadOptions`, `BadIters`, and `KeyUnavailable` where the present key is neither loaded nor to be fetched. A root that is to
-    /// inherit its parent's key: `NoSuch`, `NotEncrypted`, `IsClone`, `NotRoot`, `NoEncryptedParent`, `KeyUnavailable` for the
-    /// present key, and for that of the parent's owner, where the present key isn't to be fetched. A command that isn't built
-    /// yet is refused by `BadOptions`.
+    /// The refusal that the state decides, the first in the command's order. `create`: `Exists`, `NoParent`,
+    /// `BadOptions`, `BadIters`, `KeyUnavailable`, `Full` (datasets, ids, families). `load` and `unload`:
+    /// `NoSuch`, `NotEncrypted`, `NotRoot`, then `KeyLoaded` or `KeyUnavailable`. `get`: `NoSuch`. A change
+    /// of the key: `NoSuch`, `NotEncrypted`, `IsClone`, `BadOptions`, `BadIters`, and `KeyUnavailable` where
+    /// the present key is neither loaded nor to be fetched. A root that is to inherit its parent's key:
+    /// `NoSuch`, `NotEncrypted`, `IsClone`, `NotRoot`, `NoEncryptedParent`, `KeyUnavailable` for the present
+    /// key, and for that of the parent's owner, where the present key isn't to be fetched. A command that
+    /// isn't built yet is refused by `BadOptions`.
     pub fn needs(&self, cmd: &KeyCmd) -> Result<Needs, Stop>
         ensures { Gives result (needed self.now cmd.now) }
     {
@@ -139,7 +140,12 @@ impl KeyState {
     }
 
     fn wanted_by_load(&self, name: &SetName, place: &Option<Location>) -> Result<Needs, NoMemory>
-        ensures { IfOk result (λ needs. needs ≡ record { old_place = None; new_place = Some (unwrap_or place.now (unwrap_or (own_place self.now name.now) Location.Prompt)); seed = false }) }
+        ensures { IfOk result (λ needs. needs
+            ≡ record {
+              old_place = None;
+              new_place = Some (unwrap_or place.now (unwrap_or (own_place self.now name.now) Location.Prompt));
+              seed = false;
+            }) }
     {
         let new_place = self.place_of_new_key(name, place)?;
         Ok(Needs {
@@ -155,7 +161,8 @@ impl KeyState {
         opts: &Options,
         load_first: bool,
     ) -> Result<Needs, NoMemory>
-        ensures { IfOk result (λ needs. needs ≡ needs_of (wanted self.now (commands.Change name.now opts.now load_first))) }
+        ensures { IfOk result (λ needs. needs
+            ≡ needs_of (wanted self.now (commands.Change name.now opts.now load_first))) }
     {
         let old_place = place_or_none(self.old_place(name, load_first))?;
         let new_place = self.place_of_new_key(name, &opts.place)?;
@@ -183,7 +190,8 @@ impl KeyState {
         name: &SetName,
         place: &Option<Location>,
     ) -> Result<Location, NoMemory>
-        ensures { IfOk result (λ found. found ≡ unwrap_or place.now (unwrap_or (own_place self.now name.now) Location.Prompt)) }
+        ensures { IfOk result (λ found. found
+            ≡ unwrap_or place.now (unwrap_or (own_place self.now name.now) Location.Prompt)) }
     {
         match place {
             Some(place) => place.copy(),
@@ -251,7 +259,8 @@ impl KeyState {
 
     /// The root that a load is about, or why the state refuses it.
     pub(crate) fn load_root(&self, name: &SetName, check_only: bool) -> Result<u32, Refusal>
-        ensures { GivesRoot result (first_of (load_cases self.now name.now check_only)) (id_named name.now self.now.tree.rows) }
+        ensures { GivesRoot result (first_of (load_cases self.now name.now check_only))
+            (id_named name.now self.now.tree.rows) }
     {
         let root = match self.root_named(name) {
             Ok(root) => root,
@@ -279,7 +288,8 @@ impl KeyState {
 
     /// The root of this name, or why there is none.
     fn root_named(&self, name: &SetName) -> Result<u32, Refusal>
-        ensures { GivesRoot result (first_of (root_cases self.now (row_named name.now self.now.tree.rows) [])) (id_named name.now self.now.tree.rows) }
+        ensures { GivesRoot result (first_of (root_cases self.now (row_named name.now self.now.tree.rows) []))
+            (id_named name.now self.now.tree.rows) }
     {
         let Some(row) = self.row_named(name.as_bytes()) else {
             return Err(Refusal::NoSuch);

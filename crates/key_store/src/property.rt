@@ -18,8 +18,8 @@ use itoa::Buffer;
 const NO_VALUE: &[u8] = b"-";
 
 impl KeyState {
-    /// The value of a dataset's property, as `get` shows it. A plain dataset has `off` as its encryption and `-` as all else;
-    /// key format, location and iterations are those of the encryption root.
+    /// The value of a dataset's property, as `get` shows it. A plain dataset has `off` as its encryption and
+    /// `-` as all else; key format, location and iterations are those of the encryption root.
     pub fn get_prop(&self, id: u32, prop: Prop) -> Result<PropText, NoMemory>
         ensures { IfOk result (λ text. text ≡ property_text self.now id prop) }
     {
@@ -75,7 +75,9 @@ impl KeyState {
     }
 
     fn root_name(&self, id: u32) -> Option<&[u8]>
-        ensures { option_copied result ≡ option_map (λ row. row.name) (option_and_then (λ root. row_of root self.now.tree.rows) (owner_of self.now id)) }
+        ensures { option_copied result
+            ≡ option_map (λ row. row.name)
+            (option_and_then (λ root. row_of root self.now.tree.rows) (owner_of self.now id)) }
     {
         let root = owner_of(&self.tree, &self.roots, id)?;
         let row = self.tree.row(root)?;
@@ -145,7 +147,8 @@ fn format_text(props: Option<&Props>) -> &'static [u8]
 
 /// Adds the location of a root's key.
 fn push_place(text: &mut Vec<u8>, props: Option<&Props>) -> Result<(), NoMemory>
-    ensures { OnOk result (text.new.items ≡ text.old.items ++ option_map_or (λ own. place_text own.place) (option_copied props.entry) none_text) }
+    ensures { OnOk result (text.new.items ≡ text.old.items
+        ++ option_map_or (λ own. place_text own.place) (option_copied props.entry) none_text) }
 {
     match props {
         None => text.extend_from_slice(NO_VALUE),

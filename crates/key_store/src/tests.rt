@@ -13,8 +13,8 @@ use wrapped_keys::KeyRecord;
 
 const SEED: SeedGot = SeedGot::Got(*b"a seed of thirty-two bytes, here");
 
-// By a ChaCha20 written in Python after RFC 8439, with a block counter of 64 bits: the words of the seed at the places 34 and 35,
-// least significant byte first.
+// By a ChaCha20 written in Python after RFC 8439, with a block counter of 64 bits: the words of the seed at
+// the places 34 and 35, least significant byte first.
 const SALT: u64 = 5_487_672_229_401_127_113;
 
 const RAW_KEY: &[u8] = b"a key of thirty-two bytes, there";

@@ -10,8 +10,9 @@ use Rattle.shell_lines.specs.declared.setting.Setting.{Setting}
 use Rattle.shell_lines.specs.Reading.{Reading, Taken, Wrong, WordKind, Value, word_from, options_from}
 use Rattle.shell_lines.specs.Words.{WordAt}
 
--- the end, which may set a last condition on what stands in front: where that fails, the line lacks a word; or a word of a
--- kind, or options of these kinds in any order, each at most once, and then what their values ask for
+-- the end, which may set a last condition on what stands in front: where that fails, the line lacks a word;
+-- or a word of a kind, or options of these kinds in any order, each at most once, and then what their values
+-- ask for
 pub data Form : Type 0 where
   end_as : Option Line → Form
   word_then : (kind : WordKind) → (Value kind → Form) → Form
@@ -38,8 +39,10 @@ reading_then (Taken value words) next = next value words
 -- the words of one form, for a command with these options
 abbrev pub form_from : ℕ → List (List ℕ) → Form → List WordAt → Result Line ℕ
 form_from end options (end_as made) words = end_from end made words
-form_from end options (word_then kind next) words = reading_then (word_from end options kind words) (λ value rest. form_from end options (next value) rest)
-form_from end options (options_then kinds next) words = reading_then (options_from end kinds None [] words) (λ settings rest. form_from end options (next settings) rest)
+form_from end options (word_then kind next) words =
+    reading_then (word_from end options kind words) (λ value rest. form_from end options (next value) rest)
+form_from end options (options_then kinds next) words =
+    reading_then (options_from end kinds None [] words) (λ settings rest. form_from end options (next settings) rest)
 
 -- a line before a stop, and of two stops the later one
 abbrev pub better : Result Line ℕ → Result Line ℕ → Result Line ℕ
@@ -51,7 +54,8 @@ better (Err at) (Err place) = Err (max at place)
 abbrev pub forms_from : ℕ → ℕ → List (List ℕ) → List Form → List WordAt → Result Line ℕ
 forms_from end at options [] words = Err at
 forms_from end at options (form ∷ []) words = form_from end options form words
-forms_from end at options (form ∷ other ∷ forms) words = better (form_from end options form words) (forms_from end at options (other ∷ forms) words)
+forms_from end at options (form ∷ other ∷ forms) words =
+    better (form_from end options form words) (forms_from end at options (other ∷ forms) words)
 
 abbrev pub command_from : ℕ → List Command → WordAt → List WordAt → Result Line ℕ
 command_from end [] word words = Err word.at

@@ -78,14 +78,17 @@ pub record IsLocationWord (word : Option (List ℕ)) (place : Location) : Type 0
 
 -- an option's words behind the first one, of which it has one or none, make this setting
 abbrev pub IsSpelled : Option (List ℕ) → Setting → Type 0
-IsSpelled word (Encryption suite) = IsKeyValue word (codes "encryption") (λ value. (value ≡ suite_name suite) ⊎ ((value ≡ codes "on") × (suite ≡ Aes256Gcm)))
+IsSpelled word (Encryption suite) =
+    IsKeyValue word (codes "encryption") (λ value. (value ≡ suite_name suite)
+    ⊎ ((value ≡ codes "on") × (suite ≡ Aes256Gcm)))
 IsSpelled word (KeyFormat format) =
     IsKeyValue word (codes "keyformat") (λ value. value ≡ format_name format)
 IsSpelled word (KeyLocation place) =
     IsKeyValue word (codes "keylocation") (λ value. IsLocation value place)
 IsSpelled word (Iterations count) =
     IsKeyValue word (codes "pbkdf2iters") (λ value. IsNumber value count)
-IsSpelled word (RecordSize size) = IsKeyValue word (codes "recordsize") (λ value. (value ≡ decimal size) × IsRecordSize size)
+IsSpelled word (RecordSize size) =
+    IsKeyValue word (codes "recordsize") (λ value. (value ≡ decimal size) × IsRecordSize size)
 IsSpelled word CheckOnly = word ≡ None
 IsSpelled word (LoadFrom place) = IsLocationWord word place
 IsSpelled word Recursive = word ≡ None
@@ -113,7 +116,8 @@ settings_of options = map (λ spelled. spelled.1) options
 abbrev pub AreNew : List OptionKind → List Setting → List Spelled → Type 0
 AreNew kinds settings [] = Unit {0}
 AreNew kinds settings (spelled ∷ more) =
-    IsSpelled spelled.0 spelled.1 × (has_kind kinds (kind_of spelled.1) ≡ true) × (is_set settings (kind_of spelled.1) ≡ false)
+    IsSpelled spelled.0 spelled.1 × (has_kind kinds (kind_of spelled.1) ≡ true)
+    × (is_set settings (kind_of spelled.1) ≡ false)
     × AreNew kinds (settings ++ (spelled.1 ∷ [])) more
 
 -- no option that could still stand comes next
@@ -122,7 +126,8 @@ NoneNext kinds settings [] = Unit {0}
 NoneNext kinds settings (word ∷ words) = begins_option kinds settings word ≡ false
 
 -- words that options of these kinds begin, and what stands behind the options in what is told of their settings
-pub record HasOptions (kinds : List OptionKind) (settings : List Setting) (Behind : List Setting → List (List ℕ) → Type 0) (words : List (List ℕ)) : Type 0 where
+pub record HasOptions (kinds : List OptionKind) (settings : List Setting)
+    (Behind : List Setting → List (List ℕ) → Type 0) (words : List (List ℕ)) : Type 0 where
   pub spelled : List Spelled
   pub rest : List (List ℕ)
   pub stand : words ≡ option_words spelled ++ rest
@@ -136,8 +141,10 @@ pub record HasOptions (kinds : List OptionKind) (settings : List Setting) (Behin
 abbrev pub Matches : List (List ℕ) → Form → Option Line → List (List ℕ) → Type 0
 Matches options (end_as made) line words = (words ≡ []) × (line ≡ made)
 Matches options (word_then kind next) line words =
-    (word : List ℕ) × (rest : List (List ℕ)) × (value : Value kind) × (words ≡ word ∷ rest) × IsWord options kind word value × Matches options (next value) line rest
-Matches options (options_then kinds next) line words = HasOptions kinds [] (λ settings rest. Matches options (next settings) line rest) words
+    (word : List ℕ) × (rest : List (List ℕ)) × (value : Value kind) × (words ≡ word ∷ rest)
+    × IsWord options kind word value × Matches options (next value) line rest
+Matches options (options_then kinds next) line words =
+    HasOptions kinds [] (λ settings rest. Matches options (next settings) line rest) words
 
 abbrev pub IsMatch : List (List ℕ) → Form → List (List ℕ) → Type 0
 IsMatch options form words = (line : Option Line) × Matches options form line words
@@ -151,18 +158,21 @@ SomeMatch options (form ∷ forms) words = IsMatch options form words ⊎ SomeMa
 abbrev pub Makes : List (List ℕ) → List Form → List (List ℕ) → Line → Type 0
 Makes options [] words line = ⊥
 Makes options (form ∷ forms) words line =
-    Matches options form (Some line) words ⊎ (((other : Line) → ¬ Matches options form (Some other) words) × Makes options forms words line)
+    Matches options form (Some line) words
+    ⊎ (((other : Line) → ¬ Matches options form (Some other) words) × Makes options forms words line)
 
 -- the same of the first command with this word
 abbrev pub CommandMatches : List Command → List ℕ → List (List ℕ) → Type 0
 CommandMatches [] word words = ⊥
 CommandMatches (command ∷ commands) word words =
-    ((word ≡ command.word) × SomeMatch command.options command.forms words) ⊎ ((word ≢ command.word) × CommandMatches commands word words)
+    ((word ≡ command.word) × SomeMatch command.options command.forms words)
+    ⊎ ((word ≢ command.word) × CommandMatches commands word words)
 
 abbrev pub CommandMakes : List Command → List ℕ → List (List ℕ) → Line → Type 0
 CommandMakes [] word words line = ⊥
 CommandMakes (command ∷ commands) word words line =
-    ((word ≡ command.word) × Makes command.options command.forms words line) ⊎ ((word ≢ command.word) × CommandMakes commands word words line)
+    ((word ≡ command.word) × Makes command.options command.forms words line)
+    ⊎ ((word ≢ command.word) × CommandMakes commands word words line)
 
 -- ---- lines
 

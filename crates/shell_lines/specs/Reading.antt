@@ -1,5 +1,6 @@
--- How the words of a line are read: a word of one kind, or options in any order. What is taken comes with the words behind it. Else it is
--- wrong at AT, the offset of the first word that can't stand there, or the line's length `end` where a word is missing.
+-- How the words of a line are read: a word of one kind, or options in any order. What is taken comes with the
+-- words behind it. Else it is wrong at AT, the offset of the first word that can't stand there, or the line's
+-- length `end` where a word is missing.
 use Rattle.std.specs.Prelude.{ℕ, Bool, not, ◌&&◌, List, [], ◌∷◌, ◌++◌, if◌then◌else◌}
 use Rattle.std.specs.declared.option.Option.{Option}
 use Rattle.std.specs.declared.option.Option.TheVariants.{Some, None}
@@ -74,7 +75,8 @@ begins_option kinds settings word = list_any (λ kind. bytes_eq word (dash kind)
 
 abbrev pub if_left : List OptionKind → List Setting → Option Setting → Option Setting
 if_left kinds settings None = None
-if_left kinds settings (Some setting) = if has_kind kinds (kind_of setting) && not (is_set settings (kind_of setting)) then Some setting else None
+if_left kinds settings (Some setting) =
+    if has_kind kinds (kind_of setting) && not (is_set settings (kind_of setting)) then Some setting else None
 
 -- the setting that an option's words spell, where its kind is in the set and isn't set yet
 abbrev pub new_setting : List OptionKind → List Setting → List ℕ → Option (List ℕ) → Option Setting
@@ -84,8 +86,10 @@ abbrev pub set_then : {A : Type 0} → Option Setting → A → (Setting → A) 
 set_then None none next = none
 set_then (Some setting) none next = next setting
 
--- The options that stand next, behind those that made these settings, where the value of the option that `first` begins may be due.
-abbrev pub options_from : ℕ → List OptionKind → (first : Option (List ℕ)) → List Setting → List WordAt → Reading (List Setting)
+-- The options that stand next, behind those that made these settings, where the value of the option that
+-- `first` begins may be due.
+abbrev pub options_from : ℕ → List OptionKind → (first : Option (List ℕ)) → List Setting → List WordAt
+    → Reading (List Setting)
 options_from end kinds None settings [] = Taken settings []
 options_from end kinds (Some first) settings [] = Wrong end
 options_from end kinds None settings (word ∷ words) =
@@ -102,8 +106,11 @@ options_from end kinds (Some first) settings (word ∷ words) =
 -- The value's word of the option that `first` begins.
 abbrev pub value_from : ℕ → List OptionKind → List Setting → (first : List ℕ) → List WordAt → Reading Setting
 value_from end kinds settings first [] = Wrong end
-value_from end kinds settings first (word ∷ words) = told_by word.at words (new_setting kinds settings first (Some word.text))
+value_from end kinds settings first (word ∷ words) =
+    told_by word.at words (new_setting kinds settings first (Some word.text))
 
 -- What stands behind the word `first`, which begins an option.
 abbrev pub option_from : ℕ → List OptionKind → List Setting → (first : List ℕ) → List WordAt → Reading Setting
-option_from end kinds settings first words = set_then (new_setting kinds settings first None) (value_from end kinds settings first words) (λ setting. Taken setting words)
+option_from end kinds settings first words =
+    set_then (new_setting kinds settings first None) (value_from end kinds settings first words)
+    (λ setting. Taken setting words)

@@ -17,7 +17,8 @@ pub(crate) fn parse_options(
     kinds: &[OptionKind],
     words: &mut Words<'_>,
 ) -> Result<Vec<Setting>, LineStop>
-    ensures reads { Reads (items_of result) (words_left words.new) (options_from (end_of words.old) kinds.now Missing [] (words_left words.old)) }
+    ensures reads { Reads (items_of result) (words_left words.new)
+        (options_from (end_of words.old) kinds.now Missing [] (words_left words.old)) }
     ensures end { end_of words.new ≡ end_of words.old }
 {
     let mut settings = Vec::new(alloc);
@@ -46,7 +47,8 @@ fn parse_option(
     first: &[u8],
     words: &mut Words<'_>,
 ) -> Result<Setting, LineStop>
-    ensures reads { Reads result (words_left words.new) (option_from (end_of words.old) kinds.now settings.now first.now (words_left words.old)) }
+    ensures reads { Reads result (words_left words.new)
+        (option_from (end_of words.old) kinds.now settings.now first.now (words_left words.old)) }
     ensures end { end_of words.new ≡ end_of words.old }
 {
     if let Some(setting) = new_setting(alloc, kinds, settings, first, None)? {
@@ -69,7 +71,8 @@ fn new_setting(
     first: &[u8],
     value: Option<&[u8]>,
 ) -> Result<Option<Setting>, AllocError>
-    ensures { IfOk result (λ setting. setting ≡ new_setting kinds.now settings.now first.now (option_copied value.entry)) }
+    ensures { IfOk result (λ setting. setting
+        ≡ new_setting kinds.now settings.now first.now (option_copied value.entry)) }
 {
     let Some(setting) = parse_setting(alloc, first, value)? else {
         return Ok(None);

@@ -46,11 +46,13 @@ const CHANGE_OPTIONS: [OptionKind; 4] = [
 /// The options of `change-key -i`.
 const INHERIT_OPTIONS: [OptionKind; 2] = [OptionKind::LoadFirst, OptionKind::Inherit];
 
-/// The line that these bytes spell, without its line feed, in a section of `inside` workers, or outside one where that is 0.
+/// The line that these bytes spell, without its line feed, in a section of `inside` workers, or outside one
+/// where that is 0.
 ///
 /// # Errors
-/// `Bad` exactly where they spell no line of the language, with the offset of the first byte outside 0x20 to 0x7e, else of
-/// the first word that can't stand where it stands, else, where a word is missing, with the line's length.
+/// `Bad` exactly where they spell no line of the language, with the offset of the first byte outside 0x20 to
+/// 0x7e, else of the first word that can't stand where it stands, else, where a word is missing, with the
+/// line's length.
 pub fn parse_line(alloc: Global, bytes: &[u8], inside: u32) -> Result<Line, LineStop>
     requires { length bytes.now < 2 ^ 32 }
     ensures spells { Spells result (line_of bytes.now inside) }
@@ -254,7 +256,8 @@ fn parse_get(alloc: Global, mut words: Words<'_>) -> Result<Line, LineStop>
 
 /// The name that stands next, for a command with these options.
 fn parse_name(alloc: Global, options: &[&[u8]], words: &mut Words<'_>) -> Result<Word, LineStop>
-    ensures reads { Reads result (words_left words.new) (word_from (end_of words.old) (texts options.now) a_name (words_left words.old)) }
+    ensures reads { Reads result (words_left words.new)
+        (word_from (end_of words.old) (texts options.now) a_name (words_left words.old)) }
     ensures end { end_of words.new ≡ end_of words.old }
 {
     let Some(word) = words.next() else {
@@ -274,7 +277,8 @@ fn is_option(options: &[&[u8]], word: &[u8]) -> bool
 
 /// The word that has to stand next.
 fn parse_word(text: &[u8], words: &mut Words<'_>) -> Result<(), LineStop>
-    ensures reads { Reads result (words_left words.new) (word_from (end_of words.old) [] (the_word text.now) (words_left words.old)) }
+    ensures reads { Reads result (words_left words.new)
+        (word_from (end_of words.old) [] (the_word text.now) (words_left words.old)) }
     ensures end { end_of words.new ≡ end_of words.old }
 {
     let Some(word) = words.next() else {
@@ -289,7 +293,8 @@ fn parse_word(text: &[u8], words: &mut Words<'_>) -> Result<(), LineStop>
 
 /// The property that stands next.
 fn parse_property(words: &mut Words<'_>) -> Result<Prop, LineStop>
-    ensures reads { Reads result (words_left words.new) (word_from (end_of words.old) [] a_property (words_left words.old)) }
+    ensures reads { Reads result (words_left words.new)
+        (word_from (end_of words.old) [] a_property (words_left words.old)) }
     ensures end { end_of words.new ≡ end_of words.old }
 {
     let Some(word) = words.next() else {

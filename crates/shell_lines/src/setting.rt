@@ -230,7 +230,8 @@ fn parse_key_value(alloc: Global, word: &[u8]) -> Result<Option<Setting>, AllocE
 
 /// What stands behind a front in a text.
 fn behind<'a>(front: &[u8], text: &'a [u8]) -> Option<&'a [u8]>
-    ensures { MatchOption result (behind front.now text.now ≡ Missing) (λ value. behind front.now text.now ≡ Found value.now) }
+    ensures { MatchOption result (behind front.now text.now ≡ Missing) (λ value. behind front.now text.now
+        ≡ Found value.now) }
 {
     text.strip_prefix(front)
 }
