@@ -19,7 +19,7 @@ use Rattle.dataset_tree.specs.declared.refusal.Refusal.{Refusal}
 use Rattle.key_machine.specs.Step.{refusal_of, wanted}
 use Rattle.key_machine.specs.Told.{Wanted}
 use Rattle.shell_lines.specs.declared.line.Line.{Line}
-use Rattle.shell_lines.specs.declared.line.Line.TheVariants.{Silent, Create, LoadKey, UnloadKey, Get, List as ListSets}
+use Rattle.shell_lines.specs.declared.line.Line.TheVariants.{Silent, Create, LoadKey, UnloadKey, ChangeKey, InheritKey, LoadBelow, LoadAll, UnloadBelow, UnloadAll, Get, List as ListSets}
 use Rattle.shell_lines.specs.Grammar.{line_of}
 use Rattle.shell_run.specs.declared.ending.Ending.{Ending}
 use Rattle.shell_run.specs.declared.ending.Ending.TheVariants.{Done, Usage, BadLine, ReadFault, WriteFault, NoMemory}
@@ -293,6 +293,12 @@ line_within n entries w ListSets = omega arith
 line_within n entries w (Create word opts) = key_within n entries w (λ name. commands.Create name opts) word
 line_within n entries w (LoadKey word check_only place) = key_within n entries w (λ name. commands.Load name check_only place) word
 line_within n entries w (UnloadKey word) = key_within n entries w (λ name. commands.Unload name) word
+line_within n entries w (ChangeKey word opts load_first) = key_within n entries w (λ name. commands.Change name opts load_first) word
+line_within n entries w (InheritKey word load_first) = key_within n entries w (λ name. commands.Inherit name load_first) word
+line_within n entries w (LoadBelow word check_only) = omega arith
+line_within n entries w (LoadAll check_only) = omega arith
+line_within n entries w (UnloadBelow word) = omega arith
+line_within n entries w UnloadAll = omega arith
 line_within n entries w (Get prop word) = key_within n entries w (λ name. commands.Get name prop) word
 
 answer_within : (n : ℕ) (entries : List FoundEntry) (w : World) (outcome : Result Line ℕ) → AnswerWithin (length w.script.ahead) (answer_if n entries w outcome)

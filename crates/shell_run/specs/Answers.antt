@@ -166,13 +166,13 @@ pub record HasWanted (needs : Needs) (kit : LineKit) : Type 0 where
 
 -- ---- a command
 
--- A command that a line of the language may give: the record size of a create, where it has one, is in form, and no line changes a key yet.
+-- A command that a line of the language may give: the record size of a create, where it has one, is in form.
 abbrev pub IsOfLine : KeyCmd → Type 0
 IsOfLine (commands.Create name opts) = IfSome opts.block IsRecordSize
 IsOfLine (commands.Load name check_only place) = Unit {0}
 IsOfLine (commands.Unload name) = Unit {0}
-IsOfLine (commands.Change name opts load_first) = ⊥
-IsOfLine (commands.Inherit name load_first) = ⊥
+IsOfLine (commands.Change name opts load_first) = Unit {0}
+IsOfLine (commands.Inherit name load_first) = Unit {0}
 IsOfLine (commands.Mount name) = ⊥
 IsOfLine (commands.Unmount name) = ⊥
 IsOfLine (commands.Get name prop) = Unit {0}

@@ -24,7 +24,7 @@ use Rattle.key_machine.specs.Step.{refusal_of, wanted}
 use Rattle.key_machine.specs.Told.{Wanted}
 use Rattle.key_store.specs.Calls.{stepped}
 use Rattle.shell_lines.specs.declared.line.Line.{Line}
-use Rattle.shell_lines.specs.declared.line.Line.TheVariants.{Silent, Create, LoadKey, UnloadKey, Get, List as ListSets}
+use Rattle.shell_lines.specs.declared.line.Line.TheVariants.{Silent, Create, LoadKey, UnloadKey, ChangeKey, InheritKey, LoadBelow, LoadAll, UnloadBelow, UnloadAll, Get, List as ListSets}
 use Rattle.shell_lines.specs.Grammar.{line_of}
 use Rattle.shell_run.specs.declared.found.FoundEntry.{FoundEntry}
 use Rattle.shell_run.specs.declared.found.FoundKind.{FoundKind}
@@ -205,8 +205,14 @@ abbrev pub answer_of : ℕ → List FoundEntry → World → Line → Answer
 answer_of n entries w Silent = Goes (record { world = w; output = []; takings = [] })
 answer_of n entries w (Create word opts) = key_answer n entries w (λ name. commands.Create name opts) word
 answer_of n entries w (LoadKey word check_only place) = key_answer n entries w (λ name. commands.Load name check_only place) word
+answer_of n entries w (ChangeKey word opts load_first) = key_answer n entries w (λ name. commands.Change name opts load_first) word
+answer_of n entries w (InheritKey word load_first) = key_answer n entries w (λ name. commands.Inherit name load_first) word
 answer_of n entries w (UnloadKey word) = key_answer n entries w (λ name. commands.Unload name) word
 answer_of n entries w (Get prop word) = key_answer n entries w (λ name. commands.Get name prop) word
+answer_of n entries w (LoadBelow word check_only) = Goes (record { world = w; output = []; takings = [] })
+answer_of n entries w (LoadAll check_only) = Goes (record { world = w; output = []; takings = [] })
+answer_of n entries w (UnloadBelow word) = Goes (record { world = w; output = []; takings = [] })
+answer_of n entries w UnloadAll = Goes (record { world = w; output = []; takings = [] })
 answer_of n entries w ListSets = Goes (record {
   world = w;
   output = flat_map (set_line n w.present.keys) w.present.keys.tree.rows ++ ok_line n;

@@ -90,6 +90,22 @@ fn carry_out<W: Outside>(
             let command = unload_command(alloc, name);
             run_command(alloc, keys, outside, number, command, output)
         }
+        Line::ChangeKey {
+            name,
+            opts,
+            load_first,
+        } => {
+            let command = change_command(alloc, name, opts, *load_first);
+            run_command(alloc, keys, outside, number, command, output)
+        }
+        Line::InheritKey { name, load_first } => {
+            let command = inherit_command(alloc, name, *load_first);
+            run_command(alloc, keys, outside, number, command, output)
+        }
+        Line::LoadBelow { .. }
+        | Line::LoadAll { .. }
+        | Line::UnloadBelow { .. }
+        | Line::UnloadAll => Err(Halt::NoMemory),
         Line::Get { prop, name } => {
             let command = get_command(alloc, *prop, name);
             run_command(alloc, keys, outside, number, command, output)
@@ -201,6 +217,30 @@ fn unload_command(alloc: Global, name: &Word) -> Result<KeyCmd, Stop>
 {
     let name = SetName::parse(alloc, name.as_bytes())?;
     Ok(KeyCmd::Unload { name })
+}
+
+fn change_command(
+    alloc: Global,
+    name: &Word,
+    opts: &Options,
+    load_first: bool,
+) -> Result<KeyCmd, Stop>
+    ensures { Gives result (command_named (λ name. commands.Change name opts.now load_first) (named name.now)) }
+{
+    let name = SetName::parse(alloc, name.as_bytes())?;
+    let opts = opts.copy()?;
+    Ok(KeyCmd::Change {
+        name,
+        opts,
+        load_first,
+    })
+}
+
+fn inherit_command(alloc: Global, name: &Word, load_first: bool) -> Result<KeyCmd, Stop>
+    ensures { Gives result (command_named (λ name. commands.Inherit name load_first) (named name.now)) }
+{
+    let name = SetName::parse(alloc, name.as_bytes())?;
+    Ok(KeyCmd::Inherit { name, load_first })
 }
 
 fn get_command(alloc: Global, prop: Prop, name: &Word) -> Result<KeyCmd, Stop>

@@ -2,7 +2,7 @@ use Rattle.std.proofs.Common.{refl, Ok, ◌++◌, [], ap}
 use Rattle.std.specs.List.{flat_map}
 use Rattle.dataset_tree.specs.SetName.{named}
 use Rattle.encryption_roots.specs.declared.command.KeyCmd.TheVariants as commands
-use Rattle.shell_lines.specs.declared.line.Line.TheVariants.{Silent, Create, LoadKey, UnloadKey, Get, List as ListSets}
+use Rattle.shell_lines.specs.declared.line.Line.TheVariants.{Silent, Create, LoadKey, UnloadKey, ChangeKey, InheritKey, Get, List as ListSets}
 use Rattle.shell_run.specs.Texts.{ok_line, set_line}
 use Rattle.shell_run.specs.Transcript.{command_named}
 use Rattle.shell_run.proofs.CommandLemmas.{carried, carried_still}
@@ -43,6 +43,20 @@ returns-in-UnloadKey-clause-told g c =
     (carried c.args.number c.args.keys.now c.run_command-in-UnloadKey.new.keys (g.W.Outside.told c.args.outside.now) (g.W.Outside.told c.run_command-in-UnloadKey.new.outside) (g.W.Outside.script c.args.outside.now) (g.W.Outside.script c.run_command-in-UnloadKey.new.outside)
     (UnloadKey c.in-UnloadKey.name) c.run_command-in-UnloadKey.result c.unload_command-command.result (command_named (λ name. commands.Unload name) (named c.in-UnloadKey.name)) c.args.output.now.items c.run_command-in-UnloadKey.new.output.items
     (λ entries w. refl) c.unload_command-command.ensures c.run_command-in-UnloadKey.ensures.told)
+
+pub returns-in-ChangeKey-clause-told : goal.returns-in-ChangeKey-clause-told
+returns-in-ChangeKey-clause-told g c =
+    rw c.in-ChangeKey.is
+    (carried c.args.number c.args.keys.now c.run_command-in-ChangeKey.new.keys (g.W.Outside.told c.args.outside.now) (g.W.Outside.told c.run_command-in-ChangeKey.new.outside) (g.W.Outside.script c.args.outside.now) (g.W.Outside.script c.run_command-in-ChangeKey.new.outside)
+    (ChangeKey c.in-ChangeKey.name c.in-ChangeKey.opts c.in-ChangeKey.load_first) c.run_command-in-ChangeKey.result c.change_command-command.result (command_named (λ name. commands.Change name c.in-ChangeKey.opts c.in-ChangeKey.load_first) (named c.in-ChangeKey.name)) c.args.output.now.items c.run_command-in-ChangeKey.new.output.items
+    (λ entries w. refl) c.change_command-command.ensures c.run_command-in-ChangeKey.ensures.told)
+
+pub returns-in-InheritKey-clause-told : goal.returns-in-InheritKey-clause-told
+returns-in-InheritKey-clause-told g c =
+    rw c.in-InheritKey.is
+    (carried c.args.number c.args.keys.now c.run_command-in-InheritKey.new.keys (g.W.Outside.told c.args.outside.now) (g.W.Outside.told c.run_command-in-InheritKey.new.outside) (g.W.Outside.script c.args.outside.now) (g.W.Outside.script c.run_command-in-InheritKey.new.outside)
+    (InheritKey c.in-InheritKey.name c.in-InheritKey.load_first) c.run_command-in-InheritKey.result c.inherit_command-command.result (command_named (λ name. commands.Inherit name c.in-InheritKey.load_first) (named c.in-InheritKey.name)) c.args.output.now.items c.run_command-in-InheritKey.new.output.items
+    (λ entries w. refl) c.inherit_command-command.ensures c.run_command-in-InheritKey.ensures.told)
 
 pub returns-in-Get-clause-told : goal.returns-in-Get-clause-told
 returns-in-Get-clause-told g c =

@@ -1,6 +1,6 @@
 use Rattle.dataset_tree.specs.declared.refusal.Refusal.TheVariants.{KeyFault, EntropyFault}
 use Rattle.shell_run.proofs.CommandLemmas.{executed, executed_at_once, executed_stopped}
-use Rattle.shell_run.proofs.FaultLemmas.{executed_fault, needs_apart, key_taking, entropy_taking, by_fetch, by_fill}
+use Rattle.shell_run.proofs.FaultLemmas.{executed_fault, needs_apart, key_taking, entropy_taking, by_fetch, by_fill, either_rose}
 use Rattle.shell_run.proofs.command.execute.Goals as goal
 
 pub returns-in-Err-clause-told : goal.returns-in-Err-clause-told
@@ -27,7 +27,9 @@ returns-in-Err-clause-entropy_fault g c = λ same. absurd (needs_apart EntropyFa
 
 pub returns-clause-key_fault : goal.returns-clause-key_fault
 returns-clause-key_fault g c = λ same.
-    c.in-Ok-take_kit.ensures.key_fault (by_fetch c.in-Ok-take_kit.kit (executed_fault KeyFault key_taking c.args.keys.now c.args.command.now c.requires c.in-Ok.needs c.in-Ok-take_kit.kit c.carry.result c.in-Ok.ensures c.in-Ok-take_kit.ensures.asked c.carry.ensures.reply
+    either_rose (g.W.Outside.told c.args.outside.now).fetches.faults (g.W.Outside.told c.take_kit.new.outside).fetches.faults c.in-Ok-take_kit.kit.old_key c.in-Ok-take_kit.kit.new_key
+    c.in-Ok-take_kit.ensures.old_key_fault c.in-Ok-take_kit.ensures.new_key_fault
+    (by_fetch c.in-Ok-take_kit.kit (executed_fault KeyFault key_taking c.args.keys.now c.args.command.now c.requires c.in-Ok.needs c.in-Ok-take_kit.kit c.carry.result c.in-Ok.ensures c.in-Ok-take_kit.ensures.asked c.carry.ensures.reply
     (rw c.settle-2.ensures at same)))
 
 pub returns-clause-entropy_fault : goal.returns-clause-entropy_fault
