@@ -1,15 +1,44 @@
 -- There are no more roots and loaded keys than datasets.
-use Rattle.std.proofs.Common.{◌≡◌, ◌⊎◌, ⊎_elim, ℕ, suc, ◌<◌, ◌≤◌, true, false, ◌==◌, List, [], ◌∷◌, length, get_or, Some, is_some, ap, arith}
+use Rattle.std.proofs.Common.{◌≡◌, ◌∙◌, ◌+◌, ◌⊎◌, ⊎_elim, ℕ, suc, ◌<◌, ◌≤◌, true, false, cond, nat_lt, ◌==◌, List, [], ◌∷◌, length, get_or, Some, None, is_some, is_err, Ok, Err, Result, OnOk, OnErr, ap, arith}
+use Rattle.std.proofs.lemmas.Bool.{cases_Bool}
 use Rattle.std.proofs.lemmas.Bool.Decides.{nat_tests}
+use Rattle.std.proofs.lemmas.List.{length_push}
 use Rattle.std.proofs.lemmas.List.Elements.{recursion_from_All}
 use Rattle.std.specs.List.{All, AllPairs, AllByRecursion}
 use Rattle.dataset_tree.specs.declared.tree.Row.{Row}
-use Rattle.dataset_tree.specs.Tree.{row_of}
-use Rattle.encryption_roots.specs.ById.{at_id}
+use Rattle.dataset_tree.specs.declared.kinds.Kind.{Kind}
+use Rattle.dataset_tree.specs.Tree.{Datasets, row_of, with_row}
+use Rattle.encryption_roots.specs.ById.{at_id, with_id}
 use Rattle.encryption_roots.proofs.ByIdLemmas.{Rises, rises}
 use Rattle.key_machine.specs.Plain.{Plain, Ciphers, is_root}
 use Rattle.key_machine.specs.Sound.{Sound, IsEncrypted}
 use Rattle.key_machine.proofs.KeyLists.{each_found}
+
+pub on_err : {T E : Type 0} (r : Result T E) (P : Type 0) → OnErr r P → is_err r ≡ true → P
+on_err (Ok x) P holds err = absurd (cc)
+on_err (Err e) P holds err = holds
+
+pub on_ok : {T E : Type 0} (r : Result T E) (P : Type 0) → OnOk r P → is_err r ≡ false → P
+on_ok (Ok x) P holds ok = holds
+on_ok (Err e) P holds ok = absurd (cc)
+
+-- a tree that isn't full has room for one more
+pub one_more_row : (t after : Datasets) (name : List ℕ) (kind : Kind) → after ≡ with_row t name kind 0 → length t.rows < 256 → length after.rows ≤ 256
+one_more_row t after name kind added few =
+    let long : length after.rows ≡ length t.rows + 1 = ap (λ (tree : Datasets). length tree.rows) added ∙ length_push t.rows _ in
+    omega (arith, long, few)
+
+-- a value at a new id makes one more
+pub one_more : {X : Type 0} (id : ℕ) (value : X) (entries : List (ℕ × X)) → at_id id entries ≡ None → length entries < length (with_id id value entries)
+one_more id value [] new = omega arith
+one_more id value (entry ∷ entries) new =
+    ⊎_elim
+    (λ (c : (entry.0 == id) ≡ true). absurd (let found : Some entry.1 ≡ None = rw c at new in cc))
+    (λ (c : (entry.0 == id) ≡ false).
+    let rest : length entries < length (with_id id value entries) = one_more id value entries (rw c at new) in
+    ⊎_elim
+    (λ (lower : nat_lt entry.0 id ≡ true). rw lower (omega (arith, rest)))
+    (λ (lower : nat_lt entry.0 id ≡ false). rw (lower, c) (omega arith)) (cases_Bool (nat_lt entry.0 id))) (cases_Bool (entry.0 == id))
 
 abbrev IsThere : List Row → ℕ → Type 0
 IsThere rows id = is_some (row_of id rows) ≡ true

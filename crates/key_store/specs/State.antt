@@ -1,6 +1,7 @@
 -- The plain state that a keystore's fields show, and what the fields keep.
-use Rattle.std.specs.Prelude.{◌≡◌, ℕ, ◌≤◌, List, [], map, replicate, vec_capacity, is_some, true}
+use Rattle.std.specs.Prelude.{◌≡◌, ℕ, ◌≤◌, List, [], length, map, replicate, vec_capacity, is_some, true, unwrap_or}
 use Rattle.std.specs.List.{All}
+use Rattle.encryption_roots.specs.ById.{at_id}
 use Rattle.encryption_roots.specs.Props.{KeepsIterations}
 use Rattle.encryption_roots.specs.RecordSize.{IsRecordSize}
 use Rattle.wrapped_keys.specs.Stored.{parsed_record}
@@ -17,6 +18,10 @@ stored_of family = record { wrapped = family.wrapped; block = family.block }
 abbrev pub stored_records : List (ℕ × FamilyRecord) → List (ℕ × Stored)
 stored_records records = map (λ entry. (entry.0, stored_of entry.1)) records
 
+-- a family's record, with the bytes that are written for it, of several the first
+abbrev pub with_written : List (ℕ × List ℕ) → ℕ × FamilyRecord → ℕ × FamilyRecord
+with_written written entry = (entry.0, record { wrapped = unwrap_or (at_id entry.0 written) entry.1.wrapped; block = entry.1.block })
+
 -- Nothing is mapped yet.
 abbrev pub plain_of : Inside → Plain
 plain_of s = record {
@@ -30,8 +35,9 @@ plain_of s = record {
   users = [];
 }
 
--- There is room for 32 records and 256 loaded keys.
+-- There is room for 32 records and 256 loaded keys, and there are at most 256 datasets, of which each root is one.
 pub record HasRoom (s : Inside) : Type 0 where
+  pub datasets : length s.tree.rows ≤ 256
   pub records : 32 ≤ vec_capacity s.records
   pub loaded : 256 ≤ vec_capacity s.loaded
 

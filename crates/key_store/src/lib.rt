@@ -9,10 +9,11 @@ mod laws;
 mod load;
 mod lookup;
 mod needs;
+mod plans;
 mod property;
 mod state;
 
-pub use laws::commands_keep_soundness;
+pub use laws::{commands_keep_soundness, states_are_sound};
 pub use needs::Needs;
 pub use state::KeyState;
 

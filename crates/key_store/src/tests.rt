@@ -3,10 +3,14 @@ ghost use Rattle.std.specs.Prelude.{IfOk, IfSome};
 ghost use Rattle.encryption_roots.specs.RecordSize.{IsRecordSize};
 
 use super::*;
-use dataset_tree::{Format, MaterialFault, Refusal, SetName, Stop};
-use encryption_roots::{Fetched, KeyCmd, LineKit, Material, Options, Prop, SeedGot};
+use crate::state::FamilyRecord;
+use dataset_tree::{Format, MaterialFault, RecordBytes, Refusal, SetName, Stop};
+use encryption_roots::{
+    Fetched, KeyCmd, LineKit, Material, Options, Prop, SeedGot, put_at_id,
+};
 use std::alloc::Global;
 use std::test::Fail;
+use wrapped_keys::KeyRecord;
 
 const SEED: SeedGot = SeedGot::Got(*b"a seed of thirty-two bytes, here");
 
@@ -106,5 +110,43 @@ fn a_plain_dataset_has_no_key(rt: HostRuntime) -> Result<(), Fail> {
     let text = state.get_prop(1, Prop::KeyStatus)?;
     assert_eq!(rt; text.as_bytes(), b"-".as_slice());
     commands_keep_soundness();
+    Ok(())
+}
+
+impl KeyState {
+    // Turns a bit in the sealed text of a family's record, where no key is loaded.
+    fn damage(&mut self, family: u32) -> Result<(), Fail> {
+        let stored = *self.record(family).ok_or("no record")?;
+        let wrapped = damaged(&stored.wrapped)?;
+        if KeyRecord::from_bytes(&wrapped).is_none() || !self.loaded.is_empty() {
+            return Err(Fail::from("no damage"));
+        }
+        let block = stored.block;
+        put_at_id(&mut self.records, family, FamilyRecord { wrapped, block })?;
+        Ok(())
+    }
+}
+
+fn damaged(stored: &RecordBytes) -> Result<RecordBytes, Fail> {
+    let mut bytes = [0; 134];
+    let sealed = stored.as_slice();
+    let wrapped = &mut bytes[..sealed.len()];
+    wrapped.copy_from_slice(sealed);
+    *wrapped.last_mut().ok_or("no record")? ^= 1;
+    Ok(RecordBytes::from_slice(wrapped))
+}
+
+#[test]
+fn a_damaged_record_is_named(rt: HostRuntime) -> Result<(), Fail> {
+    let alloc = rt.alloc();
+    let mut state = with_root(alloc, &options(Format::Raw, None), RAW_KEY, SEED)??;
+    let kit = kit(alloc, RAW_KEY, SEED)?;
+    let heir = SetName::parse(alloc, b"tank/a")?;
+    state.create(&heir, &Options::none(), &kit)?;
+    let name = tank(alloc)?;
+    state.unload(&name)?;
+    state.damage(2)?;
+    let loaded = state.load(&name, false, &kit);
+    assert_eq!(rt; loaded, Err(Stop::Refused(Refusal::WrongKey { dataset: 2 })));
     Ok(())
 }

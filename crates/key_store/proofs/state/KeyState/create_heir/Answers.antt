@@ -1,6 +1,7 @@
 use Rattle.std.proofs.Common.{◌≡◌, ◌<◌, ℕ, List, length, true, false, is_some, None, refl, sym, ap, ◌∙◌, subst, arith}
 use Rattle.std.proofs.lemmas.List.{length-map}
 use Rattle.std.specs.List.{All}
+use Rattle.dataset_tree.specs.declared.kinds.Kind.TheVariants.{Crypt}
 use Rattle.encryption_roots.specs.declared.command.KeyCmd.{KeyCmd}
 use Rattle.encryption_roots.specs.declared.command.KeyCmd.TheVariants as commands
 use Rattle.encryption_roots.specs.declared.props.Options.{Options}
@@ -22,6 +23,7 @@ use Rattle.key_store.specs.Calls.{stepped}
 use Rattle.key_store.specs.NewRoot.{IsToldFamily}
 use Rattle.key_store.specs.State.{plain_of, stored_of, stored_records}
 use Rattle.key_store.proofs.RecordLemmas.{rising_records, with_id-stored}
+use Rattle.key_store.proofs.RoomLemmas.{one_more_row}
 use Rattle.key_store.proofs.CreateLemmas.{few_families, given_id, heir_encrypted, heir_step, heir_sound, heir_opens, heir_state}
 use Rattle.key_store.proofs.state.KeyState.create_heir.Goals as goal
 
@@ -94,7 +96,11 @@ invariant_of-self-2 c =
       records = subst (λ (records : List (ℕ × FamilyRecord)). All (λ entry. is_some (parsed_record entry.1.wrapped) ≡ true) records) (sym c.put_with_room.ensures.put) in_form;
       sizes = subst (λ (records : List (ℕ × FamilyRecord)). All (λ entry. IsRecordSize entry.1.block) records) (sym c.put_with_room.ensures.put) sizes;
       props = c.self.invariant.props;
-      room = record { records = omega (arith, c.self.invariant.room.records, c.put_with_room.ensures.room); loaded = c.self.invariant.room.loaded };
+      room = record {
+        datasets = one_more_row (before c).tree c.add_free.new.tree c.args.name.now Crypt c.in_ok-id.ensures.added (free (before c) c.args.name.now c.args.opts.now (accepted c)).rows;
+        records = omega (arith, c.self.invariant.room.records, c.put_with_room.ensures.room);
+        loaded = c.self.invariant.room.loaded;
+      };
     }
 
 pub returns-clause-state : goal.returns-clause-state

@@ -9,6 +9,7 @@ use Rattle.key_machine.specs.Sound.{Sound}
 use Rattle.key_ciphers.specs.Ciphers.{ciphers}
 use Rattle.key_store.specs.State.{plain_of}
 use Rattle.key_machine.proofs.CreateLawsStep.{free}
+use Rattle.key_store.proofs.RoomLemmas.{one_more_row}
 use Rattle.key_store.proofs.CreateLemmas.{given_id, plain_sound}
 use Rattle.key_store.proofs.state.KeyState.create_plain.Goals as goal
 
@@ -29,5 +30,9 @@ invariant_of-self-2 c =
       records = c.self.invariant.records;
       sizes = c.self.invariant.sizes;
       props = c.self.invariant.props;
-      room = record { records = c.self.invariant.room.records; loaded = c.self.invariant.room.loaded };
+      room = record {
+        datasets = one_more_row before.tree c.add_free.new.tree c.args.name.now PlainKind c.in_ok-id.ensures.added (free before c.args.name.now c.args.opts.now accepted).rows;
+        records = c.self.invariant.room.records;
+        loaded = c.self.invariant.room.loaded;
+      };
     }

@@ -1,6 +1,7 @@
-use Rattle.std.proofs.Common.{◌≡◌, ◌<◌, ◌≤◌, ℕ, List, length, true, not, ◌&&◌, ◌||◌, false, is_some, is_err, None, Ok, Err, Result, OnOk, OnErr, refl, sym, ap, ◌∙◌, subst, arith}
+use Rattle.std.proofs.Common.{◌≡◌, ◌<◌, ◌≤◌, ℕ, List, length, true, not, ◌&&◌, ◌||◌, false, is_some, None, refl, sym, ap, ◌∙◌, subst, arith}
 use Rattle.std.proofs.lemmas.List.{length-map}
 use Rattle.std.specs.List.{All}
+use Rattle.dataset_tree.specs.declared.kinds.Kind.TheVariants.{Crypt}
 use Rattle.encryption_roots.specs.declared.command.KeyCmd.{KeyCmd}
 use Rattle.encryption_roots.specs.declared.command.KeyCmd.TheVariants as commands
 use Rattle.encryption_roots.specs.declared.props.Options.{Options}
@@ -23,18 +24,10 @@ use Rattle.key_store.specs.Calls.{stepped}
 use Rattle.key_store.specs.NewRoot.{IsToldRoot}
 use Rattle.key_store.specs.State.{plain_of, stored_of, stored_records}
 use Rattle.key_store.proofs.RecordLemmas.{rising_records, with_id-stored}
-use Rattle.key_store.proofs.RoomLemmas.{roots_fit, loaded_fit}
+use Rattle.key_store.proofs.RoomLemmas.{on_err, on_ok, one_more_row, roots_fit, loaded_fit}
 use Rattle.key_machine.proofs.CreateLawsStep.{IsFree, free}
 use Rattle.key_store.proofs.CreateLemmas.{few_families, given_id, root_step, root_sound, root_opens, made_state}
 use Rattle.key_store.proofs.state.KeyState.create_root.Goals as goal
-
-on_err : {T E : Type 0} (r : Result T E) (P : Type 0) → OnErr r P → is_err r ≡ true → P
-on_err (Ok x) P holds err = absurd (cc)
-on_err (Err e) P holds err = holds
-
-on_ok : {T E : Type 0} (r : Result T E) (P : Type 0) → OnOk r P → is_err r ≡ false → P
-on_ok (Ok x) P holds ok = holds
-on_ok (Err e) P holds ok = absurd (cc)
 
 -- what the conditions say of the state that the fields show
 is_free : (inside now : Plain) (name : List ℕ) (opts : Options) → inside ≡ now → refusal_of now (commands.Create name opts) ≡ None → IsFree inside name opts
@@ -116,6 +109,7 @@ invariant_of-self-2 c =
       sizes = subst (λ (records : List (ℕ × FamilyRecord)). All (λ entry. IsRecordSize entry.1.block) records) (sym c.put_with_room.ensures.put) sizes;
       props = subst (λ (roots : List (ℕ × Props)). All (λ entry. KeepsIterations entry.1) roots) (sym (inserted c)) props;
       room = record {
+        datasets = one_more_row before.tree c.add_free.new.tree c.args.name.now Crypt c.in_ok-id.ensures.added (free before c.args.name.now c.args.opts.now (accepted_at c)).rows;
         records = omega (arith, c.self.invariant.room.records, c.put_with_room.ensures.room);
         loaded = omega (arith, c.self.invariant.room.loaded, c.put_with_room-2.ensures.room);
       };

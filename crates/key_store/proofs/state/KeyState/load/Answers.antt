@@ -35,7 +35,7 @@ invariant_of-self c =
       records = c.self.invariant.records;
       sizes = c.self.invariant.sizes;
       props = c.self.invariant.props;
-      room = record { records = c.self.invariant.room.records; loaded = omega (arith, c.self.invariant.room.loaded, c.in_ok-put_at_id.ensures.room) };
+      room = record { datasets = c.self.invariant.room.datasets; records = c.self.invariant.room.records; loaded = omega (arith, c.self.invariant.room.loaded, c.in_ok-put_at_id.ensures.room) };
     }
 
 -- the step at the state that is seen

@@ -11,5 +11,5 @@ invariant_of-result c =
       records = rw c.in_ok-records.ensures.items (All-nil _);
       sizes = rw c.in_ok-records.ensures.items (All-nil _);
       props = rw c.in_ok-roots.ensures (All-nil _);
-      room = record { records = omega (arith, c.in_ok-records.ensures.capacity); loaded = omega (arith, c.in_ok-loaded.ensures.capacity) };
+      room = record { datasets = rw c.in_ok-tree.ensures (omega arith); records = omega (arith, c.in_ok-records.ensures.capacity); loaded = omega (arith, c.in_ok-loaded.ensures.capacity) };
     }

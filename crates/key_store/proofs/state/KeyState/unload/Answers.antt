@@ -29,5 +29,5 @@ invariant_of-self c =
       records = c.self.invariant.records;
       sizes = c.self.invariant.sizes;
       props = c.self.invariant.props;
-      room = record { records = c.self.invariant.room.records; loaded = omega (arith, c.self.invariant.room.loaded, c.remove_at_id.ensures.room) };
+      room = record { datasets = c.self.invariant.room.datasets; records = c.self.invariant.room.records; loaded = omega (arith, c.self.invariant.room.loaded, c.remove_at_id.ensures.room) };
     }
