@@ -280,9 +280,9 @@ module _ (why : Refusal) (taking : IsTaking why) where
   anew_fault wrong tells (Ok old) (Ok new) (Ok seed) none fault = absurd (let no_fault : None ≡ Some why = sym (none old new seed) ∙ fault in cc)
 
   -- the old key is fetched, or it has no fault
-  old_key_is : (fetches : Bool) (props : Option Props) (key : List ℕ) (fetched : Fetched)
-      → (is_some (let place : Option Location = if fetches then option_map (λ props. props.place) props else None in place) ≡ true → WasAsked fetched)
-      → (if fetches then fetched_old ciphers props fetched else Ok key) ≡ Err why → (fetched ≡ fetches.Fault) × (why ≡ KeyFault)
+  old_key_is : (asks : Bool) (props : Option Props) (key : List ℕ) (fetched : Fetched)
+      → (is_some (let place : Option Location = if asks then option_map (λ props. props.place) props else None in place) ≡ true → WasAsked fetched)
+      → (if asks then fetched_old ciphers props fetched else Ok key) ≡ Err why → (fetched ≡ fetches.Fault) × (why ≡ KeyFault)
   old_key_is false props key fetched asked fault = absurd (cc)
   old_key_is true None key fetched asked fault = absurd (cc)
   old_key_is true (Some props) key fetched asked fault = key_fault_is props.format props.iters props.salt fetched (asked refl) fault

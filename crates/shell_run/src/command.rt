@@ -6,7 +6,7 @@ ghost use Rattle.encryption_roots.specs.declared.command.KeyCmd.TheVariants as c
 ghost use Rattle.key_machine.specs.Fair.{WasAsked};
 ghost use Rattle.key_store.specs.Calls.{stepped, state_after};
 ghost use Rattle.shell_run.specs.declared.found.FoundEntry.{FoundEntry};
-ghost use Rattle.shell_run.specs.Answers.{Acts, Agrees, Executes, Fetches, IsOfLine, HasWanted, Reads, Replies, TakesKit, WhereTold, settled, spot_of, wants_of};
+ghost use Rattle.shell_run.specs.Answers.{Acts, ActsAs, Agrees, Executes, Fetches, IsOfLine, HasWanted, Reads, Replies, TakesKit, WhereTold, settled, spot_of, wants_of};
 ghost use Rattle.shell_run.specs.Takings.{is_fetch};
 ghost use Rattle.shell_run.specs.Transcript.{commanded, told_world};
 
@@ -26,19 +26,20 @@ pub(crate) enum Shown {
     Text(PropText),
 }
 
-/// Carries out a command of line `number`, with what it takes for it, or gives its refusal. Where the state refuses it, nothing is
+/// Carries out a command of line `number`, which is this part of it, with what it takes for it, or gives its refusal. Where the state refuses it, nothing is
 /// taken. An `Err` says that the run is over.
 pub(crate) fn execute<W: Outside>(
     alloc: Global,
     keys: &mut KeyState,
     outside: &mut W,
     number: u32,
+    part: u32,
     command: &KeyCmd,
 ) -> Result<Result<Shown, Refusal>, Halt>
     requires { IsOfLine command.now }
-    ensures told { Acts number (W.told outside.old) (W.told outside.new) (λ made.
+    ensures told { ActsAs number part (W.told outside.old) (W.told outside.new) (λ made.
         WhereTold (told_world keys.old (W.told outside.old) (W.script outside.old)) made (λ entries w.
-        Executes result number (commanded (spot_of number entries) w command.now) (told_world keys.new (W.told outside.new) (W.script outside.new)) made)) }
+        Executes result (commanded (spot_of number part entries) w command.now) (told_world keys.new (W.told outside.new) (W.script outside.new)) made)) }
     ensures reads { Reads (result_err result) (W.script outside.old) (W.script outside.new) (W.faults outside.old) (W.faults outside.new) }
     // These two refusals come only where a taking for this line failed.
     ensures key_fault { result ≡ Ok (Err Refusal.KeyFault) →
@@ -51,7 +52,7 @@ pub(crate) fn execute<W: Outside>(
         Ok(needs) => needs,
         Err(stop) => return settle(Err(stop)),
     };
-    let kit = match take_kit(alloc, outside, number, &needs) {
+    let kit = match take_kit(alloc, outside, number, part, &needs) {
         Ok(kit) => kit,
         Err(halt) => return Err(halt),
     };
@@ -162,10 +163,11 @@ fn take_kit<W: Outside>(
     alloc: Global,
     outside: &mut W,
     number: u32,
+    part: u32,
     needs: &Needs,
 ) -> Result<LineKit, Halt>
-    ensures takes { Acts number (W.told outside.old) (W.told outside.new) (λ made. (entries : List FoundEntry) → Agrees entries made →
-        TakesKit result number (wants_of needs.now) entries (W.told outside.old) (W.script outside.old) (W.script outside.new) made) }
+    ensures takes { ActsAs number part (W.told outside.old) (W.told outside.new) (λ made. (entries : List FoundEntry) → Agrees entries made →
+        TakesKit result number part (wants_of needs.now) entries (W.told outside.old) (W.script outside.old) (W.script outside.new) made) }
     ensures reads { Reads (result_err result) (W.script outside.old) (W.script outside.new) (W.faults outside.old) (W.faults outside.new) }
     ensures asked { IfOk result (λ kit. HasWanted needs.now kit) }
     ensures old_key_fault { IfOk result (λ kit. kit.old_key ≡ Fetched.Fault →
@@ -176,17 +178,17 @@ fn take_kit<W: Outside>(
         Rose (W.told outside.old).fills.faults (W.told outside.new).fills.faults) }
     ensures holds { W.holds outside.new ≡ W.holds outside.old }
 {
-    let old_entry = taking_of(number, FoundKind::OldKey);
+    let old_entry = taking_of(number, part, FoundKind::OldKey);
     let old_key = match fetch_if(alloc, outside, &needs.old_place, old_entry) {
         Ok(old_key) => old_key,
         Err(halt) => return Err(halt),
     };
-    let new_entry = taking_of(number, FoundKind::NewKey);
+    let new_entry = taking_of(number, part, FoundKind::NewKey);
     let new_key = match fetch_if(alloc, outside, &needs.new_place, new_entry) {
         Ok(new_key) => new_key,
         Err(halt) => return Err(halt),
     };
-    let seed = match outside.fill(needs.seed, taking_of(number, FoundKind::Seed)) {
+    let seed = match outside.fill(needs.seed, taking_of(number, part, FoundKind::Seed)) {
         Ok(seed) => seed,
         Err(_) => return Err(Halt::NoMemory),
     };
@@ -219,13 +221,8 @@ fn fetch_if<W: Outside>(
     }
 }
 
-/// A taking of this line, which is no part of several.
-fn taking_of(line: u32, what: FoundKind) -> FoundEntry
-    ensures { result ≡ record { line = line; part = 0; what = what } }
+fn taking_of(line: u32, part: u32, what: FoundKind) -> FoundEntry
+    ensures { result ≡ record { line = line; part = part; what = what } }
 {
-    FoundEntry {
-        line,
-        part: 0,
-        what,
-    }
+    FoundEntry { line, part, what }
 }

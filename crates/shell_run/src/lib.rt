@@ -10,6 +10,7 @@ mod outside;
 mod reply;
 mod run;
 mod script;
+mod task;
 
 pub use found::{Found, FoundEntry, FoundKind};
 pub use laws::{failures_tell_what_failed, parts_stand_in_order};
