@@ -1,5 +1,5 @@
 -- A command with what was taken for it is carried out as it is defined.
-use Rattle.std.proofs.Common.{◌≡◌, ℕ, Bool, ◌++◌, List, [], Option, Some, None, Result, Ok, Err, IfOk, IfSome, IsSomeAnd, OnErr, OnOk, refl, ap, sym, ◌∙◌, subst}
+use Rattle.std.proofs.Common.{◌≡◌, ℕ, Bool, ◌++◌, List, [], Option, Some, None, Result, Ok, Err, IfOk, IfSome, OnErr, OnOk, refl, ap, sym, ◌∙◌, subst}
 use Rattle.std.specs.Option.{option_and_then, option_map}
 use Rattle.std.proofs.lemmas.List.{append-nil}
 use Rattle.dataset_tree.specs.declared.refusal.Refusal.{Refusal}
@@ -29,16 +29,15 @@ use Rattle.shell_run.specs.declared.task.Report.{Report}
 use Rattle.shell_run.specs.declared.task.Report.TheVariants as reports
 use lib.Chars.{codes}
 use Rattle.std.specs.List.{AllByRecursion}
-use Rattle.std.specs.Prelude.{if◌then◌else◌}
 use Rattle.dataset_tree.specs.declared.tree.Row.{Row}
-use Rattle.shell_run.specs.Answers.{Acts, ActsAs, Agrees, Executes, GivesKit, HaltsAt, HaltsIn, HasAnswer, IsDone, PerformsOne, Replies, TakesKit, WhereTold, settled, shown_output, shown_report, spot_of, supply_takings, unspelled, wants_of, well_count, well_of}
+use Rattle.shell_run.specs.Answers.{Acts, ActsAs, Agrees, Executes, GivesKit, HaltsAt, HaltsIn, HasAnswer, IsDone, PerformsOne, Replies, TakesKit, WhereTold, settled, shown_output, shown_report, spot_of, unspelled, wants_of, well_count, well_of}
 use Rattle.shell_run.specs.Outer.{Outer, Takes, left_after}
 use Rattle.shell_run.specs.Ran.{IsFront}
 use Rattle.shell_run.specs.Script.{Script, ToldScript, script_told}
 use Rattle.shell_run.specs.Takings.{Taking, fills_of}
 use Rattle.shell_run.specs.Reports.{name_in, reply_output, reported, root_outcome}
 use Rattle.shell_run.specs.Texts.{key_line}
-use Rattle.shell_run.specs.Transcript.{World, world_of, told_world, Spot, Supply, Has, Lacks, kit_of, Outcome, Does, Halts, supplied, refused_at_once, unless_refused, commanded, Turn, Answer, Goes, Ends, answer_of, answer_if}
+use Rattle.shell_run.specs.Transcript.{World, world_of, told_world, Spot, Supply, Has, Lacks, kit_of, Outcome, Does, Halts, supplied, refused_at_once, unless_refused, commanded, answer_of, answer_if}
 use Rattle.shell_run.proofs.KitLemmas.{told_at, some_of}
 use Rattle.shell_run.proofs.TakingLemmas.{takes_none}
 
@@ -155,16 +154,19 @@ pub executed : (n part : ℕ) (p new : Plain) (command : KeyCmd) (needs : Needs)
 executed n part p new command needs kit a d sa sd result known acts replies after = record {
   made = acts.made;
   takes = acts.takes;
-  said = (acts.said.0, λ entries agrees. told_each p a sa (λ w. Executes (settled result) (commanded (spot_of n part entries) w command) (told_world new d sd) acts.made) (λ files left script f e s.
-      let w : World = world_of p files left script in
-      let spot : Spot = spot_of n part entries in
-      let gives = some_of (script_told sd) (λ later. kit_of spot files left script (wants_of needs) ≡ Has kit later acts.made)
-      (kit_at n part (wants_of needs) entries a sa sd acts.made (Ok kit) files left script f e s (acts.said.1 entries agrees)) in
-      let done : commanded spot w command ≡ supplied w command (Has kit gives.0 acts.made) = accepted_is p command needs spot files left script known ∙ ap (supplied w command) gives.2 in
-      let rest : List ℕ = left_after (fills_of acts.made) left in
-      subst (λ (x : Outcome). Executes (settled result) x (told_world new d sd) acts.made) (sym done)
-      (finish result (stepped p command kit).reply (told_world new d sd) p new (stepped p command kit).state files rest gives.0 acts.made replies after
-      (told_after n new a d sd files left gives.0 acts.made acts.takes f e gives.1))));
+  said = (
+    acts.said.0,
+    λ entries agrees. told_each p a sa (λ w. Executes (settled result) (commanded (spot_of n part entries) w command) (told_world new d sd) acts.made) (λ files left script f e s.
+        let w : World = world_of p files left script in
+        let spot : Spot = spot_of n part entries in
+        let gives = some_of (script_told sd) (λ later. kit_of spot files left script (wants_of needs) ≡ Has kit later acts.made)
+        (kit_at n part (wants_of needs) entries a sa sd acts.made (Ok kit) files left script f e s (acts.said.1 entries agrees)) in
+        let done : commanded spot w command ≡ supplied w command (Has kit gives.0 acts.made) = accepted_is p command needs spot files left script known ∙ ap (supplied w command) gives.2 in
+        let rest : List ℕ = left_after (fills_of acts.made) left in
+        subst (λ (x : Outcome). Executes (settled result) x (told_world new d sd) acts.made) (sym done)
+        (finish result (stepped p command kit).reply (told_world new d sd) p new (stepped p command kit).state files rest gives.0 acts.made replies after
+        (told_after n new a d sd files left gives.0 acts.made acts.takes f e gives.1))),
+  );
 }
 
 -- the run is over while a kit is made
@@ -182,11 +184,14 @@ pub executed_stopped : (n part : ℕ) (p : Plain) (command : KeyCmd) (needs : Ne
 executed_stopped n part p command needs halt a d sa sd known acts = record {
   made = acts.made;
   takes = acts.takes;
-  said = (acts.said.0, λ entries agrees. told_each p a sa (λ w. Executes (Err halt) (commanded (spot_of n part entries) w command) (told_world p d sd) acts.made) (λ files left script f e s.
-      let w : World = world_of p files left script in
-      subst (λ (x : Outcome). Executes (Err halt) x (told_world p d sd) acts.made) (sym (accepted_is p command needs (spot_of n part entries) files left script known))
-      (halted halt w command (kit_of (spot_of n part entries) files left script (wants_of needs)) (script_told sd) acts.made
-      (kit_at n part (wants_of needs) entries a sa sd acts.made (Err halt) files left script f e s (acts.said.1 entries agrees)))));
+  said = (
+    acts.said.0,
+    λ entries agrees. told_each p a sa (λ w. Executes (Err halt) (commanded (spot_of n part entries) w command) (told_world p d sd) acts.made) (λ files left script f e s.
+        let w : World = world_of p files left script in
+        subst (λ (x : Outcome). Executes (Err halt) x (told_world p d sd) acts.made) (sym (accepted_is p command needs (spot_of n part entries) files left script known))
+        (halted halt w command (kit_of (spot_of n part entries) files left script (wants_of needs)) (script_told sd) acts.made
+        (kit_at n part (wants_of needs) entries a sa sd acts.made (Err halt) files left script f e s (acts.said.1 entries agrees)))),
+  );
 }
 
 -- ---- what is reported of it
@@ -242,10 +247,12 @@ performed_one_by n p outer script report command (Ok shown) (Does done) (Ok coun
     let text = shown_done n p report command shown done.reply executes.0 in
     (executes.1, printed ∙ ap (λ out. before ++ out) (text.0 ∙ ap (λ q. reported n q report command done.reply) (sym keys)), executes.2, counted ∙ text.1)
 performed_one_by n p outer script report command (Err why) (Does done) (Ok count) before after made executes printed counted ended =
-    let keys : done.world.present.keys ≡ p = keys_told p outer script done.world executes.1 in
-    (executes.1,
-    printed ∙ ap (λ out. before ++ out) (shown_refused n p report command why ∙ ap (reported n p report command) (sym executes.0) ∙ ap (λ q. reported n q report command done.reply) (sym keys)),
-    executes.2, counted ∙ ap well_of (sym executes.0))
+    let keys : done.world.present.keys ≡ p = keys_told p outer script done.world executes.1 in (
+      executes.1,
+      printed ∙ ap (λ out. before ++ out) (shown_refused n p report command why ∙ ap (reported n p report command) (sym executes.0) ∙ ap (λ q. reported n q report command done.reply) (sym keys)),
+      executes.2,
+      counted ∙ ap well_of (sym executes.0),
+    )
 performed_one_by n p outer script report command (Ok shown) (Does done) (Err halt) before after made executes printed counted ended =
     let memory : halt ≡ NoMemory = cc in subst (λ h. HaltsAt h (Does done) made) (sym memory) (front_all made done.takings executes.2)
 performed_one_by n p outer script report command (Err why) (Does done) (Err halt) before after made executes printed counted ended =
@@ -260,10 +267,13 @@ pub performed_one : (n part : ℕ) (p new : Plain) (a d : Outer) (sa sd : ToldSc
 performed_one n part p new a d sa sd report command shown result before after acts printed counted ended = record {
   made = acts.made;
   takes = acts.takes;
-  said = (acts.said.0, λ entries agrees.
-      on_told (told_world p a sa) (λ w. Executes (Ok shown) (commanded (spot_of n part entries) w command) (told_world new d sd) acts.made)
-      (λ w. PerformsOne result n report command (commanded (spot_of n part entries) w command) (told_world new d sd) before after acts.made)
-      (λ w executes. performed_one_by n new d sd report command shown (commanded (spot_of n part entries) w command) result before after acts.made executes printed counted ended) (acts.said.1 entries agrees));
+  said = (
+    acts.said.0,
+    λ entries agrees.
+        on_told (told_world p a sa) (λ w. Executes (Ok shown) (commanded (spot_of n part entries) w command) (told_world new d sd) acts.made)
+        (λ w. PerformsOne result n report command (commanded (spot_of n part entries) w command) (told_world new d sd) before after acts.made)
+        (λ w executes. performed_one_by n new d sd report command shown (commanded (spot_of n part entries) w command) result before after acts.made executes printed counted ended) (acts.said.1 entries agrees),
+  );
 }
 
 -- ---- a line

@@ -1,5 +1,5 @@
 -- What is taken for a command: the old key, the new key and a seed.
-use Rattle.std.proofs.Common.{◌≡◌, ◌⊎◌, inl, inr, ⊎_elim, ◌<◌, ℕ, ◌+◌, ◌≤◌, Bool, true, false, ◌||◌, List, [], ◌∷◌, ◌++◌, drop, if◌then◌else◌, Option, Some, None, Result, Ok, Err, IsErr, IsErrAnd, IfErr, IfOk, IfSome, IsSomeAnd, refl, ap, sym, ◌∙◌, subst, append_assoc, arith}
+use Rattle.std.proofs.Common.{◌≡◌, ◌⊎◌, inl, inr, ⊎_elim, ◌<◌, ℕ, ◌+◌, ◌≤◌, Bool, true, false, ◌||◌, List, [], ◌∷◌, ◌++◌, drop, if◌then◌else◌, Option, Some, None, Result, Ok, Err, IsErr, IsErrAnd, IfSome, IsSomeAnd, refl, ap, sym, ◌∙◌, subst, append_assoc, arith}
 use Rattle.std.specs.declared.alloc.AllocError.{AllocError}
 use Rattle.std.specs.List.{AllByRecursion}
 use Rattle.std.proofs.lemmas.List.{append-nil}
@@ -19,7 +19,7 @@ use Rattle.shell_run.specs.declared.ending.Halt.TheVariants.{BadLine, ReadFault,
 use Rattle.shell_run.specs.declared.found.FoundEntry.{FoundEntry}
 use Rattle.shell_run.specs.declared.found.FoundKind.{FoundKind}
 use Rattle.shell_run.specs.declared.found.FoundKind.TheVariants.{OldKey, NewKey, Seed}
-use Rattle.shell_run.specs.Answers.{Acts, ActsAs, Agrees, Fetches, Fills, FillsFrom, GivesKit, IsCalled, PromptGives, PromptStops, TakesKit, fetch_fails, is_fault, is_seed_fault, spot_of, supply_takings, taking_with}
+use Rattle.shell_run.specs.Answers.{Acts, ActsAs, Agrees, Fetches, Fills, FillsFrom, GivesKit, IsCalled, PromptGives, PromptStops, TakesKit, is_fault, is_seed_fault, spot_of, supply_takings, taking_with}
 use Rattle.shell_run.specs.Outer.{Calls, Outer, Takes, left_after}
 use Rattle.shell_run.specs.Ran.{IsFront}
 use Rattle.shell_run.specs.Script.{Script, ToldScript, Given, Gives, Stops, prompted, script_told}
@@ -377,9 +377,12 @@ pub kit_stopped_first : (n part : ℕ) (wants : Wanted) (a b : Outer) (sa sb : T
 kit_stopped_first n part wants a b sa sb halt p = record {
   made = p.made;
   takes = p.takes;
-  said = (all_of_part n part 0 1 p.made (fetched_within n part OldKey (Err halt) wants.old_place a.files sa sb p.made p.said), λ entries agrees.
-      where_each a.files a.entropy (script_told sa) (λ files left script. GivesKit (Err halt) (kit_of (spot_of n part entries) files left script wants) (script_told sb) p.made)
-      (λ files left script f e s. stopped_first n part halt wants entries a.files sa sb p.made files left script f s agrees p.said));
+  said = (
+    all_of_part n part 0 1 p.made (fetched_within n part OldKey (Err halt) wants.old_place a.files sa sb p.made p.said),
+    λ entries agrees.
+        where_each a.files a.entropy (script_told sa) (λ files left script. GivesKit (Err halt) (kit_of (spot_of n part entries) files left script wants) (script_told sb) p.made)
+        (λ files left script f e s. stopped_first n part halt wants entries a.files sa sb p.made files left script f s agrees p.said),
+  );
 }
 
 pub kit_stopped_second : (n part : ℕ) (wants : Wanted) (a b c : Outer) (sa sb sc : ToldScript) (old_key : Fetched) (halt : Halt)
@@ -391,13 +394,16 @@ kit_stopped_second n part wants a b c sa sb sc old_key halt p q =
     record {
       made = p.made ++ q.made;
       takes = takes_both (λ line. line ≡ n) p.made q.made a b c (order_within n part 0 1 2 p.made q.made first second p.takes.order q.takes.order) p.takes q.takes;
-      said = (all_both (λ taking. taking.entry.part ≡ part) p.made q.made (all_of_part n part 0 1 p.made first) (all_of_part n part 1 2 q.made second), λ entries agrees.
-          where_each a.files a.entropy (script_told sa) (λ files left script. GivesKit (Err halt) (kit_of (spot_of n part entries) files left script wants) (script_told sc) (p.made ++ q.made))
-          (λ files left script f e s.
-          let gave = gave_of n part OldKey old_key wants.old_place a.files sa sb p.made entries files script f s (all_first (λ taking. has_entry taking.entry entries ≡ taking.fails) p.made q.made agrees) p.said in
-          subst (λ (g : Given Fetched). GivesKit (Err halt) (with_old (spot_of n part entries) files left wants g) (script_told sc) (p.made ++ q.made)) (sym gave.2)
-          (stopped_second n part halt wants entries b.files sb sc p.made q.made files left gave.0 old_key (p.takes.files ∙ f) gave.1 gave.3
-          (fetched_fills n part OldKey refl (Ok old_key) wants.old_place a.files sa sb p.made p.said) (all_second (λ taking. has_entry taking.entry entries ≡ taking.fails) p.made q.made agrees) q.said)));
+      said = (
+        all_both (λ taking. taking.entry.part ≡ part) p.made q.made (all_of_part n part 0 1 p.made first) (all_of_part n part 1 2 q.made second),
+        λ entries agrees.
+            where_each a.files a.entropy (script_told sa) (λ files left script. GivesKit (Err halt) (kit_of (spot_of n part entries) files left script wants) (script_told sc) (p.made ++ q.made))
+            (λ files left script f e s.
+            let gave = gave_of n part OldKey old_key wants.old_place a.files sa sb p.made entries files script f s (all_first (λ taking. has_entry taking.entry entries ≡ taking.fails) p.made q.made agrees) p.said in
+            subst (λ (g : Given Fetched). GivesKit (Err halt) (with_old (spot_of n part entries) files left wants g) (script_told sc) (p.made ++ q.made)) (sym gave.2)
+            (stopped_second n part halt wants entries b.files sb sc p.made q.made files left gave.0 old_key (p.takes.files ∙ f) gave.1 gave.3
+            (fetched_fills n part OldKey refl (Ok old_key) wants.old_place a.files sa sb p.made p.said) (all_second (λ taking. has_entry taking.entry entries ≡ taking.fails) p.made q.made agrees) q.said)),
+      );
     }
 
 -- the takings of all three, whatever the last gave
@@ -428,19 +434,22 @@ pub kit_stopped_third : (n part : ℕ) (wants : Wanted) (a b c d : Outer) (sa sb
 kit_stopped_third n part wants a b c d sa sb sc old_key new_key stop p q r = record {
   made = (p.made ++ q.made) ++ r.made;
   takes = takes_three n part wants a b c d sa sb sc old_key new_key (Err stop) p.made q.made r.made p.said q.said r.said p.takes q.takes r.takes;
-  said = (parts_three n part wants a.files b.files c.entropy sa sb sc old_key new_key (Err stop) p.made q.made r.made p.said q.said r.said, λ entries agrees.
-      where_each a.files a.entropy (script_told sa) (λ files left script. GivesKit (Err NoMemory) (kit_of (spot_of n part entries) files left script wants) (script_told sc) ((p.made ++ q.made) ++ r.made))
-      (λ files left script f e s.
-      let agrees_keys = all_first (λ taking. has_entry taking.entry entries ≡ taking.fails) (p.made ++ q.made) r.made agrees in
-      let old = gave_of n part OldKey old_key wants.old_place a.files sa sb p.made entries files script f s (all_first (λ taking. has_entry taking.entry entries ≡ taking.fails) p.made q.made agrees_keys) p.said in
-      let new = gave_of n part NewKey new_key wants.new_place b.files sb sc q.made entries files old.0 (p.takes.files ∙ f) old.1 (all_second (λ taking. has_entry taking.entry entries ≡ taking.fails) p.made q.made agrees_keys) q.said in
-      let last : List Taking = fill_at (seed_at (spot_of n part entries) left) wants.seed in
-      subst (λ (g : Given Fetched). IsFront ((p.made ++ q.made) ++ r.made) (supply_takings (with_old (spot_of n part entries) files left wants g))) (sym old.2)
-      (subst (λ (g : Given Fetched). IsFront ((p.made ++ q.made) ++ r.made) (supply_takings (with_new (spot_of n part entries) left wants old_key g))) (sym new.2) (
-        last,
-        ap (λ xs. (xs ++ fetch_at (taking_at (spot_of n part entries) NewKey) wants.new_place) ++ last) (sym old.3) ∙ ap (λ xs. (p.made ++ xs) ++ last) (sym new.3)
-            ∙ ap (λ xs. xs ++ last) (sym (append-nil (p.made ++ q.made)) ∙ ap (λ xs. (p.made ++ q.made) ++ xs) (sym r.said)),
-      ))));
+  said = (
+    parts_three n part wants a.files b.files c.entropy sa sb sc old_key new_key (Err stop) p.made q.made r.made p.said q.said r.said,
+    λ entries agrees.
+        where_each a.files a.entropy (script_told sa) (λ files left script. GivesKit (Err NoMemory) (kit_of (spot_of n part entries) files left script wants) (script_told sc) ((p.made ++ q.made) ++ r.made))
+        (λ files left script f e s.
+        let agrees_keys = all_first (λ taking. has_entry taking.entry entries ≡ taking.fails) (p.made ++ q.made) r.made agrees in
+        let old = gave_of n part OldKey old_key wants.old_place a.files sa sb p.made entries files script f s (all_first (λ taking. has_entry taking.entry entries ≡ taking.fails) p.made q.made agrees_keys) p.said in
+        let new = gave_of n part NewKey new_key wants.new_place b.files sb sc q.made entries files old.0 (p.takes.files ∙ f) old.1 (all_second (λ taking. has_entry taking.entry entries ≡ taking.fails) p.made q.made agrees_keys) q.said in
+        let last : List Taking = fill_at (seed_at (spot_of n part entries) left) wants.seed in
+        subst (λ (g : Given Fetched). IsFront ((p.made ++ q.made) ++ r.made) (supply_takings (with_old (spot_of n part entries) files left wants g))) (sym old.2)
+        (subst (λ (g : Given Fetched). IsFront ((p.made ++ q.made) ++ r.made) (supply_takings (with_new (spot_of n part entries) left wants old_key g))) (sym new.2) (
+          last,
+          ap (λ xs. (xs ++ fetch_at (taking_at (spot_of n part entries) NewKey) wants.new_place) ++ last) (sym old.3) ∙ ap (λ xs. (p.made ++ xs) ++ last) (sym new.3)
+              ∙ ap (λ xs. xs ++ last) (sym (append-nil (p.made ++ q.made)) ∙ ap (λ xs. (p.made ++ q.made) ++ xs) (sym r.said)),
+        ))),
+  );
 }
 
 -- all three were made
@@ -453,27 +462,30 @@ kit_taken n part wants a b c d sa sb sc old_key new_key seed p q r =
     record {
       made = (p.made ++ q.made) ++ r.made;
       takes = takes_three n part wants a b c d sa sb sc old_key new_key (Ok seed) p.made q.made r.made p.said q.said r.said p.takes q.takes r.takes;
-      said = (parts_three n part wants a.files b.files c.entropy sa sb sc old_key new_key (Ok seed) p.made q.made r.made p.said q.said r.said, λ entries agrees.
-          where_each a.files a.entropy (script_told sa)
-          (λ files left script. GivesKit (Ok record { old_key = old_key; new_key = new_key; seed = seed }) (kit_of (spot_of n part entries) files left script wants) (script_told sc) ((p.made ++ q.made) ++ r.made))
-          (λ files left script f e s.
-          let agrees_keys = all_first (λ taking. has_entry taking.entry entries ≡ taking.fails) (p.made ++ q.made) r.made agrees in
-          let old = gave_of n part OldKey old_key wants.old_place a.files sa sb p.made entries files script f s (all_first (λ taking. has_entry taking.entry entries ≡ taking.fails) p.made q.made agrees_keys) p.said in
-          let new = gave_of n part NewKey new_key wants.new_place b.files sb sc q.made entries files old.0 (p.takes.files ∙ f) old.1 (all_second (λ taking. has_entry taking.entry entries ≡ taking.fails) p.made q.made agrees_keys) q.said in
-          let agrees_seed : Agrees entries (fill_at (taking_with (entry_of n part Seed) (is_seed_fault seed)) wants.seed) =
-          subst (Agrees entries) r.said.0 (all_second (λ taking. has_entry taking.entry entries ≡ taking.fails) (p.made ++ q.made) r.made agrees) in
-          let left_b : b.entropy ≡ Some left = same_entropy a b here p.made left p.takes (fetched_fills n part OldKey refl (Ok old_key) wants.old_place a.files sa sb p.made p.said) e in
-          let left_c : c.entropy ≡ Some left = same_entropy b c here q.made left q.takes (fetched_fills n part NewKey refl (Ok new_key) wants.new_place b.files sb sc q.made q.said) left_b in
-          let seed_told = told_at c.entropy left
-          (λ l. (seed ≡ seed_from (taking_with (entry_of n part Seed) (is_seed_fault seed)) l wants.seed) × (wants.seed ≡ true → is_seed_fault seed || is_short l ≡ is_seed_fault seed)) left_c r.said.1 in
-          let filled = fill_agrees n part entries left (is_seed_fault seed) wants.seed seed_told.1 agrees_seed in
-          let seed_is : seed ≡ seed_from (seed_at (spot_of n part entries) left) left wants.seed = seed_told.0 ∙ filled.1 in
-          let made_seed : r.made ≡ fill_at (seed_at (spot_of n part entries) left) wants.seed = r.said.0 ∙ filled.0 in
-          some_at (script_told sc) new.0 (λ later. kit_of (spot_of n part entries) files left script wants ≡ Has (record { old_key = old_key; new_key = new_key; seed = seed }) later ((p.made ++ q.made) ++ r.made)) new.1
-          (ap (with_old (spot_of n part entries) files left wants) old.2 ∙ ap (with_new (spot_of n part entries) left wants old_key) new.2
-          ∙ same_supply old_key new_key seed (seed_from (seed_at (spot_of n part entries) left) left wants.seed) new.0 (takings_of (spot_of n part entries) left wants) ((p.made ++ q.made) ++ r.made) seed_is
-          (ap (λ xs. (xs ++ q.made) ++ r.made) old.3 ∙ ap (λ xs. (fetch_at (taking_at (spot_of n part entries) OldKey) wants.old_place ++ xs) ++ r.made) new.3
-          ∙ ap (λ xs. (fetch_at (taking_at (spot_of n part entries) OldKey) wants.old_place ++ fetch_at (taking_at (spot_of n part entries) NewKey) wants.new_place) ++ xs) made_seed))));
+      said = (
+        parts_three n part wants a.files b.files c.entropy sa sb sc old_key new_key (Ok seed) p.made q.made r.made p.said q.said r.said,
+        λ entries agrees.
+            where_each a.files a.entropy (script_told sa)
+            (λ files left script. GivesKit (Ok record { old_key = old_key; new_key = new_key; seed = seed }) (kit_of (spot_of n part entries) files left script wants) (script_told sc) ((p.made ++ q.made) ++ r.made))
+            (λ files left script f e s.
+            let agrees_keys = all_first (λ taking. has_entry taking.entry entries ≡ taking.fails) (p.made ++ q.made) r.made agrees in
+            let old = gave_of n part OldKey old_key wants.old_place a.files sa sb p.made entries files script f s (all_first (λ taking. has_entry taking.entry entries ≡ taking.fails) p.made q.made agrees_keys) p.said in
+            let new = gave_of n part NewKey new_key wants.new_place b.files sb sc q.made entries files old.0 (p.takes.files ∙ f) old.1 (all_second (λ taking. has_entry taking.entry entries ≡ taking.fails) p.made q.made agrees_keys) q.said in
+            let agrees_seed : Agrees entries (fill_at (taking_with (entry_of n part Seed) (is_seed_fault seed)) wants.seed) =
+            subst (Agrees entries) r.said.0 (all_second (λ taking. has_entry taking.entry entries ≡ taking.fails) (p.made ++ q.made) r.made agrees) in
+            let left_b : b.entropy ≡ Some left = same_entropy a b here p.made left p.takes (fetched_fills n part OldKey refl (Ok old_key) wants.old_place a.files sa sb p.made p.said) e in
+            let left_c : c.entropy ≡ Some left = same_entropy b c here q.made left q.takes (fetched_fills n part NewKey refl (Ok new_key) wants.new_place b.files sb sc q.made q.said) left_b in
+            let seed_told = told_at c.entropy left
+            (λ l. (seed ≡ seed_from (taking_with (entry_of n part Seed) (is_seed_fault seed)) l wants.seed) × (wants.seed ≡ true → is_seed_fault seed || is_short l ≡ is_seed_fault seed)) left_c r.said.1 in
+            let filled = fill_agrees n part entries left (is_seed_fault seed) wants.seed seed_told.1 agrees_seed in
+            let seed_is : seed ≡ seed_from (seed_at (spot_of n part entries) left) left wants.seed = seed_told.0 ∙ filled.1 in
+            let made_seed : r.made ≡ fill_at (seed_at (spot_of n part entries) left) wants.seed = r.said.0 ∙ filled.0 in
+            some_at (script_told sc) new.0 (λ later. kit_of (spot_of n part entries) files left script wants ≡ Has (record { old_key = old_key; new_key = new_key; seed = seed }) later ((p.made ++ q.made) ++ r.made)) new.1
+            (ap (with_old (spot_of n part entries) files left wants) old.2 ∙ ap (with_new (spot_of n part entries) left wants old_key) new.2
+            ∙ same_supply old_key new_key seed (seed_from (seed_at (spot_of n part entries) left) left wants.seed) new.0 (takings_of (spot_of n part entries) left wants) ((p.made ++ q.made) ++ r.made) seed_is
+            (ap (λ xs. (xs ++ q.made) ++ r.made) old.3 ∙ ap (λ xs. (fetch_at (taking_at (spot_of n part entries) OldKey) wants.old_place ++ xs) ++ r.made) new.3
+            ∙ ap (λ xs. (fetch_at (taking_at (spot_of n part entries) OldKey) wants.old_place ++ fetch_at (taking_at (spot_of n part entries) NewKey) wants.new_place) ++ xs) made_seed))),
+      );
     } where
       same_supply : (old_key new_key : Fetched) (seed z : SeedGot) (later : Script) (whole made : List Taking) → seed ≡ z → made ≡ whole
           → (let supply : Supply = Has (record { old_key = old_key; new_key = new_key; seed = z }) later whole in supply) ≡ Has (record { old_key = old_key; new_key = new_key; seed = seed }) later made

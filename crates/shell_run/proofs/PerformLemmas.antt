@@ -11,7 +11,6 @@ use Rattle.encryption_roots.specs.declared.kit.Fetched.{Fetched}
 use Rattle.encryption_roots.specs.declared.props.Location.{Location}
 use Rattle.encryption_roots.specs.declared.props.Location.TheVariants.{Prompt, File}
 use Rattle.key_machine.specs.Plain.{Plain}
-use Rattle.key_machine.specs.Reply.{Reply}
 use Rattle.key_machine.specs.Step.{refusal_of, wanted}
 use Rattle.key_machine.specs.Told.{Wanted}
 use Rattle.shell_lines.specs.declared.line.Line.{Line}
@@ -20,14 +19,14 @@ use Rattle.shell_run.specs.declared.ending.Halt.TheVariants.{BadLine, ReadFault,
 use Rattle.shell_run.specs.declared.found.FoundEntry.{FoundEntry}
 use Rattle.shell_run.specs.declared.found.FoundKind.TheVariants.{OldKey, NewKey}
 use Rattle.shell_run.specs.declared.task.Report.{Report}
-use Rattle.shell_run.specs.Answers.{Acts, ActsAs, AreOfLine, HaltFaults, HaltsAt, HaltsIn, HasAnswer, IsSeedless, PerformsOne, Reads, WhereTold, answer_takings, outcome_takings, spot_of, supply_takings, well_of}
+use Rattle.shell_run.specs.Answers.{Acts, ActsAs, AreOfLine, HaltFaults, HaltsAt, HaltsIn, HasAnswer, IsSeedless, PerformsOne, Reads, WhereTold, answer_takings, outcome_takings, spot_of, supply_takings}
 use Rattle.shell_run.specs.Outer.{Outer, Takes}
 use Rattle.shell_run.specs.Ran.{IsFront}
 use Rattle.shell_run.specs.Reports.{is_refusal, reported, closing}
-use Rattle.shell_run.specs.Script.{Script, ToldScript, Given, Gives, Stops}
+use Rattle.shell_run.specs.Script.{ToldScript, Given, Gives, Stops}
 use Rattle.shell_run.specs.Takings.{Taking, has_entry, is_fill, fills_of}
 use Rattle.shell_run.specs.Tasks.{Asked, asked_of}
-use Rattle.shell_run.specs.Transcript.{World, world_of, told_world, Spot, taking_at, seed_at, fetch_at, fill_at, material_at, Supply, Has, Lacks, with_new, with_old, kit_of, Commanded, Outcome, Does, Halts, supplied, unless_refused, commanded, Answer, Goes, Ends, Performed, begun, with_done, closed, unless_halted, performed, answer_of}
+use Rattle.shell_run.specs.Transcript.{World, world_of, told_world, Spot, taking_at, seed_at, fetch_at, fill_at, material_at, Supply, Has, Lacks, with_new, with_old, kit_of, Commanded, Outcome, Does, Halts, supplied, unless_refused, commanded, Answer, Performed, begun, with_done, unless_halted, performed, answer_of}
 use Rattle.shell_run.proofs.CommandLemmas.{front_all, front_nil, keys_told, nothing_acts, told_each, told_of}
 use Rattle.shell_run.proofs.KitLemmas.{told_at}
 use Rattle.shell_run.proofs.TakingLemmas.{all_both, all_first, all_second, all_weaker, order_both, outcomes_both, takes_both}
@@ -145,18 +144,20 @@ PerformsNext n part report command a b first now result before after =
 pub performed_none : (n : ℕ) (report : Report) (p : Plain) (a : Outer) (sa : ToldScript) (all : List KeyCmd) (before : List ℕ)
     → PerformsTo n report a a (told_world p a sa) (told_world p a sa) all all 0 0 before before
 performed_none n report p a sa all before =
-    nothing_acts n a (λ made. AllByRecursion (λ taking. taking.entry.part < 0) made × WhereTold (told_world p a sa) made (λ entries w. Underway n entries report w (told_world p a sa) all all 0 0 before before made))
-    (tt, λ entries agrees. told_each p a sa (λ w. Underway n entries report w (told_world p a sa) all all 0 0 before before []) (λ files left script f e s. record {
-      done = begun (world_of p files left script);
-      goes_on = refl;
-      world = told_of p a sa files left script f e s;
-      output = sym (append-nil before);
-      takings = refl;
-      tried = refl;
-      well = refl;
-      fills = λ several. refl;
-      none = λ first. refl;
-    }))
+    nothing_acts n a (λ made. AllByRecursion (λ taking. taking.entry.part < 0) made × WhereTold (told_world p a sa) made (λ entries w. Underway n entries report w (told_world p a sa) all all 0 0 before before made)) (
+      tt,
+      λ entries agrees. told_each p a sa (λ w. Underway n entries report w (told_world p a sa) all all 0 0 before before []) (λ files left script f e s. record {
+        done = begun (world_of p files left script);
+        goes_on = refl;
+        world = told_of p a sa files left script f e s;
+        output = sym (append-nil before);
+        takings = refl;
+        tried = refl;
+        well = refl;
+        fills = λ several. refl;
+        none = λ first. refl;
+      }),
+    )
 
 one_well : (refused : Bool) (good : ℕ) → (if refused then good else good + 1) ≡ good + (if refused then 0 else 1)
 one_well true good = omega arith

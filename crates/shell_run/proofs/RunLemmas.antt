@@ -12,8 +12,6 @@ use Rattle.edge_io.specs.declared.errors.Failed.{Failed}
 use Rattle.encryption_roots.specs.declared.props.Location.{Location}
 use Rattle.encryption_roots.specs.declared.props.Location.TheVariants.{Prompt, File}
 use Rattle.encryption_roots.specs.declared.command.KeyCmd.{KeyCmd}
-use Rattle.encryption_roots.specs.declared.command.KeyCmd.TheVariants as commands
-use Rattle.dataset_tree.specs.SetName.{named}
 use Rattle.encryption_roots.specs.declared.kit.Fetched.{Fetched}
 use Rattle.dataset_tree.specs.declared.refusal.Refusal.{Refusal}
 use Rattle.key_machine.specs.Step.{refusal_of, wanted}
@@ -26,12 +24,12 @@ use Rattle.shell_run.specs.declared.ending.Halt.{Halt}
 use Rattle.shell_run.specs.declared.ending.Halt.TheVariants as halts
 use Rattle.shell_run.specs.declared.found.FoundEntry.{FoundEntry}
 use Rattle.shell_run.specs.declared.found.FoundKind.TheVariants.{OldKey, NewKey}
-use Rattle.shell_run.specs.Answers.{Acts, Agrees, HaltsIn, HasAnswer, WhereTold, answer_takings, spot_of}
+use Rattle.shell_run.specs.Answers.{Acts, HaltsIn, HasAnswer, WhereTold, answer_takings, spot_of}
 use Rattle.shell_run.specs.Endings.{ending_of, status_of}
 use Rattle.shell_run.specs.Outer.{Outer}
 use Rattle.shell_run.specs.Progress.{Goes as GoesOn, Taken, Ends as EndsSo, TookCut, GoesPast, NoLine, IsNextLine, NoneTaken, HasReplied, HasCut, Replied, LineRan, RunsFrom, StartsNot}
 use Rattle.shell_run.specs.Ran.{IsAnswered, IsFront, IsCut, Came, WroteLast}
-use Rattle.shell_run.specs.Script.{Script, ToldScript, Given, Gives, Stops, prompted, prompted_by, prompted_before, past_line, script_of, script_told, within_limits}
+use Rattle.shell_run.specs.Script.{Script, ToldScript, Given, Gives, Stops, prompted, prompted_by, prompted_before, past_line, script_of, script_told}
 use Rattle.shell_run.specs.Takings.{Taking, has_entry, entries_of, fills_of}
 use Rattle.shell_run.specs.Texts.{bad_line}
 use Rattle.shell_run.specs.declared.task.Report.{Report}

@@ -1,27 +1,33 @@
 -- What a line asks for.
-use Rattle.std.proofs.Common.{◌≡◌, ℕ, Bool, true, false, List, [], ◌∷◌, ◌++◌, ◌≤◌, length, Option, Some, None, Result, Ok, Err, IfOk, IfSome, refl, ap, sym, ◌∙◌, subst, arith}
+use Rattle.std.proofs.Common.{◌≡◌, ℕ, zero, suc, ◌<◌, Bool, true, false, List, [], ◌∷◌, ◌≤◌, length, map, get_or, Option, Some, None, Result, Ok, Err, IfOk, ap, sym, ◌∙◌, subst, arith}
+use Rattle.std.proofs.lemmas.List.{get_or-map, length-append, length-map}
 use Rattle.std.specs.Prelude.{if◌then◌else◌}
 use Rattle.std.specs.declared.alloc.AllocError.{AllocError}
-use Rattle.std.specs.List.{AllByRecursion, flat_map}
+use Rattle.std.specs.List.{AllByRecursion, AllPairs, flat_map}
 use Rattle.dataset_tree.specs.declared.refusal.Refusal.{Refusal}
 use Rattle.dataset_tree.specs.declared.refusal.Stop.{Stop}
 use Rattle.dataset_tree.specs.declared.refusal.Stop.TheVariants as stops
 use Rattle.dataset_tree.specs.declared.tree.Row.{Row}
 use Rattle.dataset_tree.specs.Refusal.{Gives}
 use Rattle.dataset_tree.specs.SetName.{named}
-use Rattle.dataset_tree.specs.Tree.{row_of}
+use Rattle.dataset_tree.specs.Tree.{id_named, row_of}
 use Rattle.encryption_roots.specs.declared.command.KeyCmd.{KeyCmd}
 use Rattle.encryption_roots.specs.declared.command.KeyCmd.TheVariants as commands
+use Rattle.encryption_roots.specs.declared.props.Props.{Props}
+use Rattle.encryption_roots.specs.ById.{IsRisingById}
+use Rattle.encryption_roots.specs.Owned.{roots_below}
+use Rattle.encryption_roots.proofs.OwnedLemmas.{below_rise}
+use Rattle.key_ciphers.specs.Ciphers.{ciphers}
 use Rattle.key_machine.specs.Plain.{Plain}
+use Rattle.key_machine.specs.Sound.{Sound}
 use Rattle.shell_lines.specs.declared.line.Line.{Line}
 use Rattle.shell_lines.specs.declared.line.Line.TheVariants.{Silent, Create, LoadKey, UnloadKey, ChangeKey, InheritKey, LoadBelow, LoadAll, UnloadBelow, UnloadAll, Get, List as ListSets}
 use Rattle.shell_lines.specs.Sized.{HasRecordSize}
-use Rattle.shell_run.specs.declared.task.Report.TheVariants as reports
 use Rattle.shell_run.specs.declared.task.RootAction.{RootAction}
 use Rattle.shell_run.specs.declared.task.RootAction.TheVariants.{Load, Unload}
 use Rattle.shell_run.specs.declared.task.Task.{Task}
 use Rattle.shell_run.specs.Answers.{AreOfLine, GivesTask, IsOfLine, IsSeedless, IsTask}
-use Rattle.shell_run.specs.Tasks.{Asked, all_roots, asked_if, asked_of, command_at, command_named, command_on, is_tried, no_command, on_each, on_roots, one_command, root_command, roots_named}
+use Rattle.shell_run.specs.Tasks.{Asked, all_roots, asked_if, asked_of, command_at, command_named, command_on, is_tried, on_roots, one_command, root_command, roots_named, roots_under}
 use Rattle.shell_run.proofs.TakingLemmas.{all_both}
 
 -- a task is what is asked of something that a line names, or why it names none
@@ -84,3 +90,66 @@ asked_of_line p (Get prop word) sized = name_of_line (λ name. commands.Get name
 
 pub task_of_line : (p : Plain) (line : Line) (all : List KeyCmd) → HasRecordSize line → all ≡ (asked_of p line).commands → AreOfLine all
 task_of_line p line all sized same = subst AreOfLine (sym same) (asked_of_line p line sized)
+
+-- ---- how many there are
+
+row_few : (action : RootAction) (row : Option Row) (b : Bool) → length (let commands : List KeyCmd = if b then command_at action row else [] in commands) ≤ 1
+row_few action None true = omega arith
+row_few action (Some row) true = omega arith
+row_few action row false = omega arith
+
+few_commands : (p : Plain) (action : RootAction) (roots : List ℕ) → length (flat_map (command_on p action) roots) ≤ length roots
+few_commands p action [] = omega arith
+few_commands p action (root ∷ roots) =
+    let one : length (command_on p action root) ≤ 1 = row_few action (row_of root p.tree.rows) (is_tried p action root) in
+    let later : length (flat_map (command_on p action) roots) ≤ length roots = few_commands p action roots in
+    omega (arith, one, later, length-append (command_on p action root) (flat_map (command_on p action) roots))
+
+rising_above : (ids : List ℕ) → AllPairs (λ earlier later. earlier < later) ids → (k d : ℕ) → k < length ids → k ≤ get_or ids k d
+rising_above ids rising zero d within = omega arith
+rising_above ids rising (suc k) d within =
+    let before : k ≤ get_or ids k d = rising_above ids rising k d (omega (arith, within)) in
+    let step : get_or ids k d < get_or ids (suc k) d = rising k (suc k) d (omega arith) within in
+    omega (arith, before, step)
+
+-- ids that rise are no more than there are ids
+few_ids : (ids : List ℕ) → AllPairs (λ earlier later. earlier < later) ids → ((k : ℕ) → get_or ids k 0 < 4294967296) → length ids ≤ 4294967296
+few_ids [] rising fits = omega arith
+few_ids (id ∷ ids) rising fits =
+    let above : length ids ≤ get_or (id ∷ ids) (length ids) 0 = rising_above (id ∷ ids) rising (length ids) 0 (omega arith) in
+    omega (arith, above, fits (length ids))
+
+pub few_on_roots : (p : Plain) (action : RootAction) (roots : List ℕ) (all : List KeyCmd) → AllPairs (λ earlier later. earlier < later) roots → ((k : ℕ) → get_or roots k 0 < 4294967296) → all ≡ flat_map (command_on p action) roots
+    → length all ≤ 4294967296
+few_on_roots p action roots all rising fits same =
+    let few : length (flat_map (command_on p action) roots) ≤ length roots = few_commands p action roots in
+    let long : length all ≡ length (flat_map (command_on p action) roots) = ap (λ (cs : List KeyCmd). length cs) same in
+    omega (arith, few, few_ids roots rising fits, long)
+
+ids_rise : (entries : List (ℕ × Props)) → IsRisingById entries → AllPairs (λ earlier later. earlier < later) (map (λ entry. entry.0) entries)
+ids_rise [] rising = λ k j d before within. absurd (omega (arith, within))
+ids_rise (entry ∷ entries) rising = λ k j d before within.
+    let all : List (ℕ × Props) = entry ∷ entries in
+    let id : ℕ × Props → ℕ = λ (one : ℕ × Props). one.0 in
+    let long : length (map id all) ≡ length all = length-map all id in
+    let there : j < length all = omega (arith, within, long) in
+    let here : k < length all = omega (arith, before, there) in
+    let low : get_or (map id all) k d ≡ (get_or all k entry).0 = get_or-map id all k entry d here in
+    let high : get_or (map id all) j d ≡ (get_or all j entry).0 = get_or-map id all j entry d there in
+    let step : (get_or all k entry).0 < (get_or all j entry).0 = rising k j entry before there in
+    omega (arith, low, high, step)
+
+pub all_rise : (p : Plain) → Sound ciphers p → (roots ids : List ℕ) → roots ≡ all_roots p → ids ≡ roots → AllPairs (λ earlier later. earlier < later) ids
+all_rise p sound roots ids is same = subst (λ (xs : List ℕ). AllPairs (λ earlier later. earlier < later) xs) (sym (same ∙ is)) (ids_rise p.roots sound.tree.roots)
+
+under_rise : (p : Plain) → Sound ciphers p → (found : Option ℕ) (roots : List ℕ) → roots_under p found ≡ Ok roots → AllPairs (λ earlier later. earlier < later) roots
+under_rise p sound None roots is = absurd (cc)
+under_rise p sound (Some id) roots is =
+    let same : roots_below p.tree.rows p.roots id ≡ roots = cc in subst (λ (xs : List ℕ). AllPairs (λ earlier later. earlier < later) xs) same (below_rise p.tree p.roots id sound.tree.tree)
+
+named_rise : (p : Plain) → Sound ciphers p → (given : Result (List ℕ) Refusal) (roots : List ℕ) → roots_named p given ≡ Ok roots → AllPairs (λ earlier later. earlier < later) roots
+named_rise p sound (Ok name) roots is = under_rise p sound (id_named name p.tree.rows) roots is
+named_rise p sound (Err why) roots is = absurd (cc)
+
+pub roots_rise : (p : Plain) → Sound ciphers p → (given : Result (List ℕ) Refusal) (roots ids : List ℕ) → roots_named p given ≡ Ok roots → ids ≡ roots → AllPairs (λ earlier later. earlier < later) ids
+roots_rise p sound given roots ids is same = subst (λ (xs : List ℕ). AllPairs (λ earlier later. earlier < later) xs) (sym same) (named_rise p sound given roots is)

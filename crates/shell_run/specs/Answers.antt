@@ -40,10 +40,10 @@ use Rattle.shell_run.specs.Outer.{Calls, Outer, Takes}
 use Rattle.shell_run.specs.Ran.{IsFront}
 use Rattle.shell_run.specs.Reports.{is_refusal, name_in, reported}
 use Rattle.shell_run.specs.Tasks.{Asked, no_command}
-use Rattle.shell_run.specs.Script.{Script, ToldScript, Given, Gives, Stops, prompted, script_told}
+use Rattle.shell_run.specs.Script.{Script, ToldScript, Gives, Stops, prompted, script_told}
 use Rattle.shell_run.specs.Takings.{Taking, has_entry, fills_of}
 use Rattle.shell_run.specs.Texts.{ok_line, text_line, error_line, error_text, key_line}
-use Rattle.shell_run.specs.Transcript.{World, Spot, fetch_at, material_at, fill_at, seed_from, Supply, Has, Lacks, kit_of, Commanded, Outcome, Does, Halts, Turn, Answer, Goes, Ends}
+use Rattle.shell_run.specs.Transcript.{World, Spot, fetch_at, material_at, fill_at, seed_from, Supply, Has, Lacks, kit_of, Outcome, Does, Halts, Answer, Goes, Ends}
 
 -- ---- the script
 

@@ -1,5 +1,5 @@
 -- What the shell does for a script: a fold over its lines, from a host that holds nothing.
-use Rattle.std.specs.Prelude.{ℕ, zero, suc, ◌+◌, nat_lt, Bool, true, false, ◌||◌, List, [], ◌∷◌, ◌++◌, length, take, drop, if◌then◌else◌, Result, Ok, Err}
+use Rattle.std.specs.Prelude.{ℕ, zero, suc, ◌+◌, Bool, true, false, ◌||◌, List, [], ◌∷◌, ◌++◌, length, take, if◌then◌else◌, Result, Ok, Err}
 use Rattle.std.specs.declared.option.Option.{Option}
 use Rattle.std.specs.declared.option.Option.TheVariants.{Some, None}
 use Rattle.std.specs.Option.{option_and_then, option_map}
@@ -7,7 +7,6 @@ use Rattle.std.specs.List.{flat_map}
 use Rattle.dataset_tree.specs.declared.refusal.Refusal.{Refusal}
 use Rattle.edge_io.specs.Entropy.{is_short}
 use Rattle.edge_io.specs.KeyFiles.{fetched}
-use Rattle.edge_io.specs.Lines.{lines}
 use Rattle.encryption_roots.specs.declared.props.Location.{Location}
 use Rattle.encryption_roots.specs.declared.props.Location.TheVariants.{Prompt, File}
 use Rattle.encryption_roots.specs.declared.kit.Fetched.{Fetched}

@@ -104,10 +104,11 @@ fn perform<W: Outside>(
     ensures reads { Reads (result_err result) (W.script outside.old) (W.script outside.new) (W.faults outside.old) (W.faults outside.new) }
     ensures holds { W.holds outside.new ≡ W.holds outside.old }
 {
-    let mut tried: u32 = 0;
-    let mut well: u32 = 0;
+    let mut tried: u64 = 0;
+    let mut well: u64 = 0;
     for command in commands {
-        match perform_one(alloc, keys, outside, number, tried, report, command, output) {
+        let part = tried as u32;
+        match perform_one(alloc, keys, outside, number, part, report, command, output) {
             Ok(count) => well += count,
             Err(halt) => return Err(halt),
         }
@@ -126,7 +127,7 @@ fn perform_one<W: Outside>(
     report: &Report,
     command: &KeyCmd,
     output: &mut Vec<u8>,
-) -> Result<u32, Halt>
+) -> Result<u64, Halt>
     requires { IsOfLine command.now }
     ensures told { ActsAs number part (W.told outside.old) (W.told outside.new) (λ made.
         WhereTold (told_world keys.old (W.told outside.old) (W.script outside.old)) made (λ entries w.
@@ -150,7 +151,7 @@ fn push_report(
     report: &Report,
     command: &KeyCmd,
     shown: &Result<Shown, Refusal>,
-) -> Result<u32, Halt>
+) -> Result<u64, Halt>
     ensures text { OnOk result (output.new.items ≡ output.old.items ++ shown_report number keys.now.tree.rows report.now command.now shown.now) }
     ensures count { IfOk result (λ count. count ≡ well_count shown.now) }
     ensures stops { OnErr result (result ≡ Err Halt.NoMemory) }
@@ -163,7 +164,7 @@ fn push_report(
     Ok(well_count(shown))
 }
 
-fn well_count(shown: &Result<Shown, Refusal>) -> u32
+fn well_count(shown: &Result<Shown, Refusal>) -> u64
     ensures { result ≡ well_count shown.now }
 {
     match shown {
@@ -197,8 +198,8 @@ fn push_closing(
     number: u32,
     keys: &KeyState,
     report: &Report,
-    well: u32,
-    tried: u32,
+    well: u64,
+    tried: u64,
 ) -> Result<(), Halt>
     ensures text { OnOk result (output.new.items ≡ output.old.items ++ closing number keys.now report.now well tried) }
     ensures stops { OnErr result (result ≡ Err Halt.NoMemory) }

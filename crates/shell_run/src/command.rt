@@ -71,12 +71,7 @@ fn settle(answer: Result<Shown, Stop>) -> Result<Result<Shown, Refusal>, Halt>
 }
 
 /// Carries out a command with its kit. No line gives any of the last ones yet.
-fn carry(
-    alloc: Global,
-    keys: &mut KeyState,
-    command: &KeyCmd,
-    kit: &LineKit,
-) -> Result<Shown, Stop>
+fn carry(alloc: Global, keys: &mut KeyState, command: &KeyCmd, kit: &LineKit) -> Result<Shown, Stop>
     requires { IsOfLine command.now }
     ensures reply { Replies result (stepped keys.old command.now kit.now).reply }
     ensures state { keys.new ≡ state_after result keys.old (stepped keys.old command.now kit.now).state }

@@ -17,4 +17,6 @@ pub use laws::{failures_tell_what_failed, parts_stand_in_order};
 pub use run::run_alone;
 
 #[cfg(test)]
+mod plan_tests;
+#[cfg(test)]
 mod tests;

@@ -163,16 +163,16 @@ fn push_root(
 pub(crate) fn push_total(
     text: &mut Vec<u8>,
     line: u32,
-    well: u32,
-    tried: u32,
+    well: u64,
+    tried: u64,
 ) -> Result<(), NoMemory>
     ensures { OnOk result (text.new.items ≡ text.old.items ++ total_line line well tried) }
 {
     push_number(text, line as u64)?;
     text.extend_from_slice(b" ok ")?;
-    push_number(text, well as u64)?;
+    push_number(text, well)?;
     text.extend_from_slice(b"/")?;
-    push_number(text, tried as u64)?;
+    push_number(text, tried)?;
     text.extend_from_slice(b"\n")
 }
 

@@ -1,6 +1,6 @@
 // What a line asks for: commands, and how it reports of them.
-ghost use Rattle.std.specs.Prelude.{◌≡◌, ◌≤◌, ◌++◌, IfErr, IfOk, Ok, OnOk, length};
-ghost use Rattle.std.specs.List.{flat_map};
+ghost use Rattle.std.specs.Prelude.{◌≡◌, ◌<◌, ◌≤◌, ◌++◌, IfErr, IfOk, Ok, OnOk, length};
+ghost use Rattle.std.specs.List.{AllPairs, flat_map};
 ghost use Rattle.dataset_tree.specs.Refusal.{Gives};
 ghost use Rattle.dataset_tree.specs.SetName.{named};
 ghost use Rattle.encryption_roots.specs.declared.command.KeyCmd.TheVariants as commands;
@@ -9,12 +9,12 @@ ghost use Rattle.shell_run.specs.Tasks.{all_roots, asked_of, command_named, comm
 
 use dataset_tree::{NoMemory, Refusal, Row, SetName, Stop};
 use encryption_roots::{KeyCmd, Location, Options, Prop, roots_below};
-use key_store::KeyState;
+use key_store::{KeyState, states_are_sound};
 use shell_lines::{Line, Word};
 use std::alloc::{AllocError, Global};
 
-/// The most commands of a line: a host has no more datasets.
-pub(crate) const MAX_PARTS: usize = 256;
+/// The most commands of a line, since each is on a root of its own: there are as many ids.
+pub(crate) const MAX_PARTS: u64 = 4294967296;
 
 /// How a line reports of its commands.
 #[derive(Debug, Drop)]
@@ -125,6 +125,7 @@ fn on_named(
     ensures asked { IfOk result (λ task. IsTask task (on_roots keys.now action (roots_named keys.now (named name.now)))) }
     ensures few { IfOk result (λ task. length task.commands.items ≤ MAX_PARTS) }
 {
+    states_are_sound(keys);
     match roots_named(alloc, keys, name) {
         Ok(roots) => on_each(alloc, keys, action, roots.as_slice()),
         Err(Stop::Refused(why)) => no_command(alloc, Report::Refused(why)),
@@ -137,7 +138,11 @@ fn on_all(alloc: Global, keys: &KeyState, action: RootAction) -> Result<Task, No
     ensures asked { IfOk result (λ task. IsTask task (on_roots keys.now action (Ok (all_roots keys.now)))) }
     ensures few { IfOk result (λ task. length task.commands.items ≤ MAX_PARTS) }
 {
-    let roots = all_roots(alloc, keys)?;
+    states_are_sound(keys);
+    let roots = match all_roots(alloc, keys) {
+        Ok(roots) => roots,
+        Err(_) => return Err(AllocError),
+    };
     on_each(alloc, keys, action, roots.as_slice())
 }
 
@@ -176,13 +181,14 @@ fn on_each(
     action: RootAction,
     roots: &[u32],
 ) -> Result<Task, NoMemory>
+    requires { AllPairs (λ earlier later. earlier < later) roots.now }
     ensures asked { IfOk result (λ task. IsTask task (on_each keys.now action roots.now)) }
     ensures few { IfOk result (λ task. length task.commands.items ≤ MAX_PARTS) }
 {
-    let commands = commands_on(alloc, keys, action, roots)?;
-    if commands.len() > MAX_PARTS {
-        return Err(AllocError);
-    }
+    let commands = match commands_on(alloc, keys, action, roots) {
+        Ok(commands) => commands,
+        Err(_) => return Err(AllocError),
+    };
     Ok(Task {
         commands,
         report: Report::Roots,

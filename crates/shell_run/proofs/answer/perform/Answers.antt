@@ -1,4 +1,4 @@
-use Rattle.std.proofs.Common.{◌≡◌, ◌∙◌, ◌+◌, None, ℕ, ap, refl, arith}
+use Rattle.std.proofs.Common.{◌∙◌, ◌+◌, None, ℕ, ap, refl, arith}
 use Rattle.shell_run.specs.Outer.{Outer}
 use Rattle.shell_run.specs.Script.{ToldScript}
 use Rattle.shell_run.specs.Transcript.{told_world}
@@ -13,6 +13,9 @@ loop-command-init g c = record {
   reads = record { later = omega arith; told = λ goes told. told; faults = refl };
   holds = refl;
 }
+
+pub overflow_cast-part : goal.overflow_cast-part
+overflow_cast-part g c = omega (arith, c.loop-command.invariant.tried, c.requires.few)
 
 pub overflow_add-well : goal.overflow_add-well
 overflow_add-well g c = omega (arith, c.loop-command.invariant.tried, c.loop-command.invariant.well, c.requires.few, c.in-Ok.ensures.few)
