@@ -1,5 +1,5 @@
 -- A command with what was taken for it is carried out as it is defined.
-use Rattle.std.proofs.Common.{◌≡◌, ℕ, Bool, ◌++◌, List, [], Option, Some, None, Result, Ok, Err, IfSome, IsSomeAnd, OnErr, OnOk, refl, ap, sym, ◌∙◌, subst}
+use Rattle.std.proofs.Common.{◌≡◌, ℕ, Bool, ◌++◌, List, [], Option, Some, None, Result, Ok, Err, IfOk, IfSome, OnErr, OnOk, refl, ap, sym, ◌∙◌, subst}
 use Rattle.std.specs.Option.{option_and_then, option_map}
 use Rattle.std.proofs.lemmas.List.{append-nil}
 use Rattle.dataset_tree.specs.declared.refusal.Refusal.{Refusal}
@@ -25,13 +25,19 @@ use Rattle.shell_run.specs.declared.command.Shown.TheVariants as shows
 use Rattle.shell_run.specs.declared.ending.Halt.{Halt}
 use Rattle.shell_run.specs.declared.ending.Halt.TheVariants.{BadLine, ReadFault, NoMemory}
 use Rattle.shell_run.specs.declared.found.FoundEntry.{FoundEntry}
-use Rattle.shell_run.specs.Answers.{Acts, Agrees, Commands, Executes, GivesKit, HaltsIn, HasAnswer, IsDone, Replies, ShowsStop, TakesKit, WhereTold, answer_takings, settled, shown_output, spot_of, supply_takings, unspelled, wants_of}
+use Rattle.shell_run.specs.declared.task.Report.{Report}
+use Rattle.shell_run.specs.declared.task.Report.TheVariants as reports
+use lib.Chars.{codes}
+use Rattle.std.specs.List.{AllByRecursion}
+use Rattle.dataset_tree.specs.declared.tree.Row.{Row}
+use Rattle.shell_run.specs.Answers.{Acts, ActsAs, Agrees, Executes, GivesKit, HaltsAt, HaltsIn, HasAnswer, IsDone, PerformsOne, Replies, TakesKit, WhereTold, settled, shown_output, shown_report, spot_of, unspelled, wants_of, well_count, well_of}
 use Rattle.shell_run.specs.Outer.{Outer, Takes, left_after}
 use Rattle.shell_run.specs.Ran.{IsFront}
 use Rattle.shell_run.specs.Script.{Script, ToldScript, script_told}
 use Rattle.shell_run.specs.Takings.{Taking, fills_of}
-use Rattle.shell_run.specs.Texts.{error_line}
-use Rattle.shell_run.specs.Transcript.{World, world_of, told_world, Spot, Supply, Has, Lacks, kit_of, Outcome, Does, Halts, supplied, refused_at_once, unless_refused, commanded, commanded_if, reply_output, Turn, Answer, Goes, Ends, answered, answer_of, answer_if}
+use Rattle.shell_run.specs.Reports.{name_in, reply_output, reported, root_outcome}
+use Rattle.shell_run.specs.Texts.{key_line}
+use Rattle.shell_run.specs.Transcript.{World, world_of, told_world, Spot, Supply, Has, Lacks, kit_of, Outcome, Does, Halts, supplied, refused_at_once, unless_refused, commanded, answer_of, answer_if}
 use Rattle.shell_run.proofs.KitLemmas.{told_at, some_of}
 use Rattle.shell_run.proofs.TakingLemmas.{takes_none}
 
@@ -68,7 +74,7 @@ keys_of p (Some files) None s w told = absurd (cc)
 keys_of p (Some files) (Some left) None w told = absurd (cc)
 keys_of p (Some files) (Some left) (Some script) w told = let same : world_of p files left script ≡ w = cc in sym (ap (λ (v : World). v.present.keys) same)
 
-keys_told : (p : Plain) (outer : Outer) (script : ToldScript) (w : World) → told_world p outer script ≡ Some w → w.present.keys ≡ p
+pub keys_told : (p : Plain) (outer : Outer) (script : ToldScript) (w : World) → told_world p outer script ≡ Some w → w.present.keys ≡ p
 keys_told p outer script w told = keys_of p outer.files outer.entropy (script_told script) w told
 
 pub on_told : (world : Option World) (P Q : World → Type 0) → ((w : World) → P w → Q w) → IfSome world P → IfSome world Q
@@ -84,10 +90,13 @@ acts_told n a b world P Q follows acts = record {
   said = λ entries agrees. on_told world (λ w. P entries w acts.made) (λ w. Q entries w acts.made) (λ w. follows entries w acts.made) (acts.said entries agrees);
 }
 
-acts_not : (n : ℕ) (a : Outer) (Q : List Taking → Type 0) → Q [] → Acts n a a Q
-acts_not n a Q holds = record { made = []; takes = takes_none (λ line. line ≡ n) a; said = holds }
+pub nothing_acts : (n : ℕ) (a : Outer) (Q : List Taking → Type 0) → Q [] → Acts n a a Q
+nothing_acts n a Q holds = record { made = []; takes = takes_none (λ line. line ≡ n) a; said = holds }
 
-front_all : {A : Type 0} (made whole : List A) → made ≡ whole → IsFront made whole
+acts_not : (n part : ℕ) (a : Outer) (Q : List Taking → Type 0) → Q [] → ActsAs n part a a Q
+acts_not n part a Q holds = nothing_acts n a (λ made. AllByRecursion (λ taking. taking.entry.part ≡ part) made × Q made) (tt, holds)
+
+pub front_all : {A : Type 0} (made whole : List A) → made ≡ whole → IsFront made whole
 front_all made whole same = ([], sym same ∙ sym (append-nil made))
 
 pub front_nil : {A : Type 0} (whole : List A) → IsFront [] whole
@@ -104,31 +113,31 @@ refused_by p command why None gives = absurd (cc)
 refused_by p command why (Some other) gives = cc
 
 -- a command that the state refuses, or for which memory was wanting to see that
-pub executed_at_once : (n : ℕ) (p : Plain) (command : KeyCmd) (outer : Outer) (script : ToldScript) (stop : Stop) → Gives (let stopped : Result Needs Stop = Err stop in stopped) (needed p command)
-    → Acts n outer outer (λ made. WhereTold (told_world p outer script) made (λ entries w. Executes (settled (Err stop)) n (commanded (spot_of n entries) w command) (told_world p outer script) made))
-executed_at_once n p command outer script (stops.Refused why) gives =
-    acts_not n outer (λ made. WhereTold (told_world p outer script) made (λ entries w. Executes (Ok (Err why)) n (commanded (spot_of n entries) w command) (told_world p outer script) made))
-    (λ entries agrees. told_each p outer script (λ w. Executes (Ok (Err why)) n (commanded (spot_of n entries) w command) (told_world p outer script) []) (λ files left here f e s.
+pub executed_at_once : (n part : ℕ) (p : Plain) (command : KeyCmd) (outer : Outer) (script : ToldScript) (stop : Stop) → Gives (let stopped : Result Needs Stop = Err stop in stopped) (needed p command)
+    → ActsAs n part outer outer (λ made. WhereTold (told_world p outer script) made (λ entries w. Executes (settled (Err stop)) (commanded (spot_of n part entries) w command) (told_world p outer script) made))
+executed_at_once n part p command outer script (stops.Refused why) gives =
+    acts_not n part outer (λ made. WhereTold (told_world p outer script) made (λ entries w. Executes (Ok (Err why)) (commanded (spot_of n part entries) w command) (told_world p outer script) made))
+    (λ entries agrees. told_each p outer script (λ w. Executes (Ok (Err why)) (commanded (spot_of n part entries) w command) (told_world p outer script) []) (λ files left here f e s.
     let w : World = world_of p files left here in
-    let done : commanded (spot_of n entries) w command ≡ refused_at_once w why = ap (unless_refused (spot_of n entries) w command) (refused_by p command why (refusal_of p command) gives) in
-    subst (λ (d : Outcome). Executes (Ok (Err why)) n d (told_world p outer script) []) (sym done) (refl, told_of p outer script files left here f e s, refl)))
-executed_at_once n p command outer script stops.NoMemory gives =
-    acts_not n outer (λ made. WhereTold (told_world p outer script) made (λ entries w. Executes (Err NoMemory) n (commanded (spot_of n entries) w command) (told_world p outer script) made))
-    (λ entries agrees. told_each p outer script (λ w. Executes (Err NoMemory) n (commanded (spot_of n entries) w command) (told_world p outer script) []) (λ files left here f e s. front_nil _))
+    let done : commanded (spot_of n part entries) w command ≡ refused_at_once w why = ap (unless_refused (spot_of n part entries) w command) (refused_by p command why (refusal_of p command) gives) in
+    subst (λ (d : Outcome). Executes (Ok (Err why)) d (told_world p outer script) []) (sym done) (refl, told_of p outer script files left here f e s, refl)))
+executed_at_once n part p command outer script stops.NoMemory gives =
+    acts_not n part outer (λ made. WhereTold (told_world p outer script) made (λ entries w. Executes (Err NoMemory) (commanded (spot_of n part entries) w command) (told_world p outer script) made))
+    (λ entries agrees. told_each p outer script (λ w. Executes (Err NoMemory) (commanded (spot_of n part entries) w command) (told_world p outer script) []) (λ files left here f e s. front_nil _))
 
-finish : (n : ℕ) (result : Result Shown Stop) (reply : Reply) (now : Option World) (old new state : Plain) (files : List (List ℕ × List ℕ)) (left : List ℕ) (later : Script) (made : List Taking) → Replies result reply
-    → new ≡ state_after result old state → now ≡ Some (world_of new files left later) → Executes (settled result) n (Does record { world = world_of state files left later; reply = reply; takings = made }) now made
-finish n (Ok shown) reply now old new state files left later made replies after told = (replies, told ∙ ap (λ p. Some (world_of p files left later)) after, refl)
-finish n (Err (stops.Refused why)) reply now old new state files left later made replies after told = (replies, told ∙ ap (λ p. Some (world_of p files left later)) after, refl)
-finish n (Err stops.NoMemory) reply now old new state files left later made replies after told = front_all made made refl
+finish : (result : Result Shown Stop) (reply : Reply) (now : Option World) (old new state : Plain) (files : List (List ℕ × List ℕ)) (left : List ℕ) (later : Script) (made : List Taking) → Replies result reply
+    → new ≡ state_after result old state → now ≡ Some (world_of new files left later) → Executes (settled result) (Does record { world = world_of state files left later; reply = reply; takings = made }) now made
+finish (Ok shown) reply now old new state files left later made replies after told = (replies, told ∙ ap (λ p. Some (world_of p files left later)) after, refl)
+finish (Err (stops.Refused why)) reply now old new state files left later made replies after told = (replies, told ∙ ap (λ p. Some (world_of p files left later)) after, refl)
+finish (Err stops.NoMemory) reply now old new state files left later made replies after told = front_all made made refl
 
 -- where the world is told, so is what the kit was made of
-kit_at : (n : ℕ) (wants : Wanted) (entries : List FoundEntry) (a : Outer) (sa sd : ToldScript) (made : List Taking) (result : Result LineKit Halt) (files : List (List ℕ × List ℕ)) (left : List ℕ) (script : Script)
-    → a.files ≡ Some files → a.entropy ≡ Some left → script_told sa ≡ Some script → TakesKit result n wants entries a sa sd made → GivesKit result (kit_of (spot_of n entries) files left script wants) (script_told sd) made
-kit_at n wants entries a sa sd made result files left script f e s takes =
-    told_at (script_told sa) script (λ here. GivesKit result (kit_of (spot_of n entries) files left here wants) (script_told sd) made) s
-    (told_at a.entropy left (λ l. IfSome (script_told sa) (λ here. GivesKit result (kit_of (spot_of n entries) files l here wants) (script_told sd) made)) e
-    (told_at a.files files (λ x. IfSome a.entropy (λ l. IfSome (script_told sa) (λ here. GivesKit result (kit_of (spot_of n entries) x l here wants) (script_told sd) made))) f takes))
+kit_at : (n part : ℕ) (wants : Wanted) (entries : List FoundEntry) (a : Outer) (sa sd : ToldScript) (made : List Taking) (result : Result LineKit Halt) (files : List (List ℕ × List ℕ)) (left : List ℕ) (script : Script)
+    → a.files ≡ Some files → a.entropy ≡ Some left → script_told sa ≡ Some script → TakesKit result n part wants entries a sa sd made → GivesKit result (kit_of (spot_of n part entries) files left script wants) (script_told sd) made
+kit_at n part wants entries a sa sd made result files left script f e s takes =
+    told_at (script_told sa) script (λ here. GivesKit result (kit_of (spot_of n part entries) files left here wants) (script_told sd) made) s
+    (told_at a.entropy left (λ l. IfSome (script_told sa) (λ here. GivesKit result (kit_of (spot_of n part entries) files l here wants) (script_told sd) made)) e
+    (told_at a.files files (λ x. IfSome a.entropy (λ l. IfSome (script_told sa) (λ here. GivesKit result (kit_of (spot_of n part entries) x l here wants) (script_told sd) made))) f takes))
 
 -- what an accepted command is, by what it wants
 accepted_is : (p : Plain) (command : KeyCmd) (needs : Needs) (spot : Spot) (files : List (List ℕ × List ℕ)) (left : List ℕ) (script : Script) → needed p command ≡ Ok needs
@@ -138,48 +147,54 @@ accepted_is p command needs spot files left script known =
     let both = accepted_by p command needs (refusal_of p command) known in
     ap (unless_refused spot w command) both.0 ∙ ap (λ (wants : Wanted). supplied w command (kit_of spot files left script wants)) both.1
 
-pub executed : (n : ℕ) (p new : Plain) (command : KeyCmd) (needs : Needs) (kit : LineKit) (a d : Outer) (sa sd : ToldScript) (result : Result Shown Stop) → needed p command ≡ Ok needs
-    → Acts n a d (λ made. (entries : List FoundEntry) → Agrees entries made → TakesKit (Ok kit) n (wants_of needs) entries a sa sd made)
+pub executed : (n part : ℕ) (p new : Plain) (command : KeyCmd) (needs : Needs) (kit : LineKit) (a d : Outer) (sa sd : ToldScript) (result : Result Shown Stop) → needed p command ≡ Ok needs
+    → ActsAs n part a d (λ made. (entries : List FoundEntry) → Agrees entries made → TakesKit (Ok kit) n part (wants_of needs) entries a sa sd made)
     → Replies result (stepped p command kit).reply → new ≡ state_after result p (stepped p command kit).state
-    → Acts n a d (λ made. WhereTold (told_world p a sa) made (λ entries w. Executes (settled result) n (commanded (spot_of n entries) w command) (told_world new d sd) made))
-executed n p new command needs kit a d sa sd result known acts replies after = record {
+    → ActsAs n part a d (λ made. WhereTold (told_world p a sa) made (λ entries w. Executes (settled result) (commanded (spot_of n part entries) w command) (told_world new d sd) made))
+executed n part p new command needs kit a d sa sd result known acts replies after = record {
   made = acts.made;
   takes = acts.takes;
-  said = λ entries agrees. told_each p a sa (λ w. Executes (settled result) n (commanded (spot_of n entries) w command) (told_world new d sd) acts.made) (λ files left script f e s.
-      let w : World = world_of p files left script in
-      let spot : Spot = spot_of n entries in
-      let gives = some_of (script_told sd) (λ later. kit_of spot files left script (wants_of needs) ≡ Has kit later acts.made)
-      (kit_at n (wants_of needs) entries a sa sd acts.made (Ok kit) files left script f e s (acts.said entries agrees)) in
-      let done : commanded spot w command ≡ supplied w command (Has kit gives.0 acts.made) = accepted_is p command needs spot files left script known ∙ ap (supplied w command) gives.2 in
-      let rest : List ℕ = left_after (fills_of acts.made) left in
-      subst (λ (x : Outcome). Executes (settled result) n x (told_world new d sd) acts.made) (sym done)
-      (finish n result (stepped p command kit).reply (told_world new d sd) p new (stepped p command kit).state files rest gives.0 acts.made replies after
-      (told_after n new a d sd files left gives.0 acts.made acts.takes f e gives.1)));
+  said = (
+    acts.said.0,
+    λ entries agrees. told_each p a sa (λ w. Executes (settled result) (commanded (spot_of n part entries) w command) (told_world new d sd) acts.made) (λ files left script f e s.
+        let w : World = world_of p files left script in
+        let spot : Spot = spot_of n part entries in
+        let gives = some_of (script_told sd) (λ later. kit_of spot files left script (wants_of needs) ≡ Has kit later acts.made)
+        (kit_at n part (wants_of needs) entries a sa sd acts.made (Ok kit) files left script f e s (acts.said.1 entries agrees)) in
+        let done : commanded spot w command ≡ supplied w command (Has kit gives.0 acts.made) = accepted_is p command needs spot files left script known ∙ ap (supplied w command) gives.2 in
+        let rest : List ℕ = left_after (fills_of acts.made) left in
+        subst (λ (x : Outcome). Executes (settled result) x (told_world new d sd) acts.made) (sym done)
+        (finish result (stepped p command kit).reply (told_world new d sd) p new (stepped p command kit).state files rest gives.0 acts.made replies after
+        (told_after n new a d sd files left gives.0 acts.made acts.takes f e gives.1))),
+  );
 }
 
 -- the run is over while a kit is made
-halted : (n : ℕ) (halt : Halt) (w : World) (command : KeyCmd) (supply : Supply) (new : Option Script) (made : List Taking) → GivesKit (Err halt) supply new made → HaltsIn halt (answered n (supplied w command supply)) made
-halted n (BadLine number at) w command supply new made gives =
-    subst (λ (x : Supply). HaltsIn (BadLine number at) (answered n (supplied w command x)) made) (sym gives) (refl, refl, refl)
-halted n ReadFault w command (Has kit left takings) new made gives = gives
-halted n ReadFault w command (Lacks number at takings) new made gives = gives
-halted n NoMemory w command (Has kit left takings) new made gives = gives
-halted n NoMemory w command (Lacks number at takings) new made gives = gives
+halted : (halt : Halt) (w : World) (command : KeyCmd) (supply : Supply) (new : Option Script) (made : List Taking) → GivesKit (Err halt) supply new made → HaltsAt halt (supplied w command supply) made
+halted (BadLine number at) w command supply new made gives =
+    subst (λ (x : Supply). HaltsAt (BadLine number at) (supplied w command x) made) (sym gives) (refl, refl, refl)
+halted ReadFault w command (Has kit left takings) new made gives = gives
+halted ReadFault w command (Lacks number at takings) new made gives = gives
+halted NoMemory w command (Has kit left takings) new made gives = gives
+halted NoMemory w command (Lacks number at takings) new made gives = gives
 
-pub executed_stopped : (n : ℕ) (p : Plain) (command : KeyCmd) (needs : Needs) (halt : Halt) (a d : Outer) (sa sd : ToldScript) → needed p command ≡ Ok needs
-    → Acts n a d (λ made. (entries : List FoundEntry) → Agrees entries made → TakesKit (Err halt) n (wants_of needs) entries a sa sd made)
-    → Acts n a d (λ made. WhereTold (told_world p a sa) made (λ entries w. Executes (Err halt) n (commanded (spot_of n entries) w command) (told_world p d sd) made))
-executed_stopped n p command needs halt a d sa sd known acts = record {
+pub executed_stopped : (n part : ℕ) (p : Plain) (command : KeyCmd) (needs : Needs) (halt : Halt) (a d : Outer) (sa sd : ToldScript) → needed p command ≡ Ok needs
+    → ActsAs n part a d (λ made. (entries : List FoundEntry) → Agrees entries made → TakesKit (Err halt) n part (wants_of needs) entries a sa sd made)
+    → ActsAs n part a d (λ made. WhereTold (told_world p a sa) made (λ entries w. Executes (Err halt) (commanded (spot_of n part entries) w command) (told_world p d sd) made))
+executed_stopped n part p command needs halt a d sa sd known acts = record {
   made = acts.made;
   takes = acts.takes;
-  said = λ entries agrees. told_each p a sa (λ w. Executes (Err halt) n (commanded (spot_of n entries) w command) (told_world p d sd) acts.made) (λ files left script f e s.
-      let w : World = world_of p files left script in
-      subst (λ (x : Outcome). Executes (Err halt) n x (told_world p d sd) acts.made) (sym (accepted_is p command needs (spot_of n entries) files left script known))
-      (halted n halt w command (kit_of (spot_of n entries) files left script (wants_of needs)) (script_told sd) acts.made
-      (kit_at n (wants_of needs) entries a sa sd acts.made (Err halt) files left script f e s (acts.said entries agrees))));
+  said = (
+    acts.said.0,
+    λ entries agrees. told_each p a sa (λ w. Executes (Err halt) (commanded (spot_of n part entries) w command) (told_world p d sd) acts.made) (λ files left script f e s.
+        let w : World = world_of p files left script in
+        subst (λ (x : Outcome). Executes (Err halt) x (told_world p d sd) acts.made) (sym (accepted_is p command needs (spot_of n part entries) files left script known))
+        (halted halt w command (kit_of (spot_of n part entries) files left script (wants_of needs)) (script_told sd) acts.made
+        (kit_at n part (wants_of needs) entries a sa sd acts.made (Err halt) files left script f e s (acts.said.1 entries agrees)))),
+  );
 }
 
--- ---- what is printed of it
+-- ---- what is reported of it
 
 done_output : (n : ℕ) (p : Plain) (reply : Reply) (text : List ℕ) → IsDone reply → text ≡ shown_output n p.tree.rows (Ok shows.Done) → text ≡ reply_output n p reply
 done_output n p Done text is_done same = same
@@ -189,90 +204,79 @@ done_output n p (Refused why) text is_done same = absurd is_done
 done_output n p (Reaped dataset dropped) text is_done same = absurd is_done
 done_output n p Skipped text is_done same = absurd is_done
 
-shown_ok : (n : ℕ) (p : Plain) (shown : Shown) (reply : Reply) → Replies (Ok shown) reply → shown_output n p.tree.rows (Ok shown) ≡ reply_output n p reply
-shown_ok n p shows.Done reply replies = done_output n p reply (shown_output n p.tree.rows (Ok shows.Done)) replies refl
-shown_ok n p (shows.Text text) reply replies = ap (reply_output n p) (sym replies)
+done_root : (rows : List Row) (reply : Reply) → IsDone reply → codes "ok" ≡ root_outcome rows reply
+done_root rows Done is_done = refl
+done_root rows (Made id) is_done = refl
+done_root rows (Text other) is_done = absurd is_done
+done_root rows (Refused why) is_done = absurd is_done
+done_root rows (Reaped dataset dropped) is_done = absurd is_done
+done_root rows Skipped is_done = absurd is_done
 
-pub has_turn : (n : ℕ) (p : Plain) (outer : Outer) (script : ToldScript) (shown : Result Shown Refusal) (outcome : Outcome) (result : Result (Unit {0}) Halt) (before after : List ℕ) (made : List Taking)
-    → Executes (Ok shown) n outcome (told_world p outer script) made → OnOk result (after ≡ before ++ shown_output n p.tree.rows shown) → OnErr result (result ≡ Err NoMemory)
-    → HasAnswer result (answered n outcome) (told_world p outer script) before after made
-has_turn n p outer script (Ok shown) (Does done) (Ok ok) before after made executes printed ended =
+done_well : (reply : Reply) → IsDone reply → 1 ≡ well_of reply
+done_well Done is_done = refl
+done_well (Made id) is_done = refl
+done_well (Text other) is_done = absurd is_done
+done_well (Refused why) is_done = absurd is_done
+done_well (Reaped dataset dropped) is_done = absurd is_done
+done_well Skipped is_done = absurd is_done
+
+-- a command that is carried out
+shown_done : (n : ℕ) (p : Plain) (report : Report) (command : KeyCmd) (shown : Shown) (reply : Reply) → Replies (Ok shown) reply
+    → (shown_report n p.tree.rows report command (Ok shown) ≡ reported n p report command reply) × (1 ≡ well_of reply)
+shown_done n p reports.Replies command shows.Done reply replies = (done_output n p reply (shown_output n p.tree.rows (Ok shows.Done)) replies refl, done_well reply replies)
+shown_done n p reports.Replies command (shows.Text text) reply replies = (ap (reply_output n p) (sym replies), ap well_of (sym replies))
+shown_done n p reports.Roots command shows.Done reply replies = (ap (key_line n (name_in command)) (done_root p.tree.rows reply replies), done_well reply replies)
+shown_done n p reports.Roots command (shows.Text text) reply replies = (ap (λ r. key_line n (name_in command) (root_outcome p.tree.rows r)) (sym replies), ap well_of (sym replies))
+shown_done n p reports.Sets command shows.Done reply replies = (refl, done_well reply replies)
+shown_done n p reports.Sets command (shows.Text text) reply replies = (refl, ap well_of (sym replies))
+shown_done n p (reports.Refused why) command shows.Done reply replies = (refl, done_well reply replies)
+shown_done n p (reports.Refused why) command (shows.Text text) reply replies = (refl, ap well_of (sym replies))
+
+-- one that is refused
+shown_refused : (n : ℕ) (p : Plain) (report : Report) (command : KeyCmd) (why : Refusal) → shown_report n p.tree.rows report command (Err why) ≡ reported n p report command (Refused why)
+shown_refused n p reports.Replies command why = refl
+shown_refused n p reports.Roots command why = refl
+shown_refused n p reports.Sets command why = refl
+shown_refused n p (reports.Refused other) command why = refl
+
+performed_one_by : (n : ℕ) (p : Plain) (outer : Outer) (script : ToldScript) (report : Report) (command : KeyCmd) (shown : Result Shown Refusal) (outcome : Outcome) (result : Result ℕ Halt) (before after : List ℕ) (made : List Taking)
+    → Executes (Ok shown) outcome (told_world p outer script) made → OnOk result (after ≡ before ++ shown_report n p.tree.rows report command shown) → IfOk result (λ count. count ≡ well_count shown) → OnErr result (result ≡ Err NoMemory)
+    → PerformsOne result n report command outcome (told_world p outer script) before after made
+performed_one_by n p outer script report command (Ok shown) (Does done) (Ok count) before after made executes printed counted ended =
     let keys : done.world.present.keys ≡ p = keys_told p outer script done.world executes.1 in
-    (executes.1, printed ∙ ap (λ out. before ++ out) (shown_ok n p shown done.reply executes.0 ∙ ap (λ q. reply_output n q done.reply) (sym keys)), executes.2)
-has_turn n p outer script (Err why) (Does done) (Ok ok) before after made executes printed ended =
-    let keys : done.world.present.keys ≡ p = keys_told p outer script done.world executes.1 in
-    (executes.1, printed ∙ ap (λ out. before ++ out) (ap (reply_output n p) (sym executes.0) ∙ ap (λ q. reply_output n q done.reply) (sym keys)), executes.2)
-has_turn n p outer script (Ok shown) (Does done) (Err halt) before after made executes printed ended =
-    let memory : halt ≡ NoMemory = cc in subst (λ h. HaltsIn h (answered n (Does done)) made) (sym memory) (front_all made done.takings executes.2)
-has_turn n p outer script (Err why) (Does done) (Err halt) before after made executes printed ended =
-    let memory : halt ≡ NoMemory = cc in subst (λ h. HaltsIn h (answered n (Does done)) made) (sym memory) (front_all made done.takings executes.2)
-has_turn n p outer script (Ok shown) (Halts number at w takings) result before after made executes printed ended = absurd executes
-has_turn n p outer script (Err why) (Halts number at w takings) result before after made executes printed ended = absurd executes
+    let text = shown_done n p report command shown done.reply executes.0 in
+    (executes.1, printed ∙ ap (λ out. before ++ out) (text.0 ∙ ap (λ q. reported n q report command done.reply) (sym keys)), executes.2, counted ∙ text.1)
+performed_one_by n p outer script report command (Err why) (Does done) (Ok count) before after made executes printed counted ended =
+    let keys : done.world.present.keys ≡ p = keys_told p outer script done.world executes.1 in (
+      executes.1,
+      printed ∙ ap (λ out. before ++ out) (shown_refused n p report command why ∙ ap (reported n p report command) (sym executes.0) ∙ ap (λ q. reported n q report command done.reply) (sym keys)),
+      executes.2,
+      counted ∙ ap well_of (sym executes.0),
+    )
+performed_one_by n p outer script report command (Ok shown) (Does done) (Err halt) before after made executes printed counted ended =
+    let memory : halt ≡ NoMemory = cc in subst (λ h. HaltsAt h (Does done) made) (sym memory) (front_all made done.takings executes.2)
+performed_one_by n p outer script report command (Err why) (Does done) (Err halt) before after made executes printed counted ended =
+    let memory : halt ≡ NoMemory = cc in subst (λ h. HaltsAt h (Does done) made) (sym memory) (front_all made done.takings executes.2)
+performed_one_by n p outer script report command (Ok shown) (Halts number at w takings) result before after made executes printed counted ended = absurd executes
+performed_one_by n p outer script report command (Err why) (Halts number at w takings) result before after made executes printed counted ended = absurd executes
 
-pub commands_shown : (n : ℕ) (p new : Plain) (a d : Outer) (sa sd : ToldScript) (command : KeyCmd) (shown : Result Shown Refusal) (result : Result (Unit {0}) Halt) (before after : List ℕ)
-    → Acts n a d (λ made. WhereTold (told_world p a sa) made (λ entries w. Executes (Ok shown) n (commanded (spot_of n entries) w command) (told_world new d sd) made))
-    → OnOk result (after ≡ before ++ shown_output n new.tree.rows shown) → OnErr result (result ≡ Err NoMemory)
-    → Acts n a d (λ made. WhereTold (told_world p a sa) made (λ entries w. Commands result n (Ok command) entries w (told_world new d sd) before after made))
-commands_shown n p new a d sa sd command shown result before after acts printed ended =
-    acts_told n a d (told_world p a sa) (λ entries w made. Executes (Ok shown) n (commanded (spot_of n entries) w command) (told_world new d sd) made)
-    (λ entries w made. Commands result n (Ok command) entries w (told_world new d sd) before after made)
-    (λ entries w made executes. has_turn n new d sd shown (commanded (spot_of n entries) w command) result before after made executes printed ended) acts
-
--- a refusal in place of a command, or want of memory
-pub commands_stopped : (n : ℕ) (p : Plain) (outer : Outer) (script : ToldScript) (stop : Stop) (result : Result (Unit {0}) Halt) (before after : List ℕ)
-    → OnOk result (ShowsStop n p.tree.rows stop before after) → OnErr result (result ≡ Err NoMemory)
-    → Acts n outer outer (λ made. WhereTold (told_world p outer script) made (λ entries w. Commands result n (Err stop) entries w (told_world p outer script) before after made))
-commands_stopped n p outer script (stops.Refused why) result before after printed ended =
-    acts_not n outer (λ made. WhereTold (told_world p outer script) made (λ entries w. Commands result n (Err (stops.Refused why)) entries w (told_world p outer script) before after made))
-    (λ entries agrees. told_each p outer script (λ w. Commands result n (Err (stops.Refused why)) entries w (told_world p outer script) before after [])
-    (λ files left here f e s. has_turn n p outer script (Err why) (refused_at_once (world_of p files left here) why) result before after [] (refl, told_of p outer script files left here f e s, refl) printed ended))
-commands_stopped n p outer script stops.NoMemory (Ok done) before after printed ended = absurd printed
-commands_stopped n p outer script stops.NoMemory (Err halt) before after printed ended =
-    acts_not n outer (λ made. WhereTold (told_world p outer script) made (λ entries w. Commands (Err halt) n (Err stops.NoMemory) entries w (told_world p outer script) before after made))
-    (λ entries agrees. told_each p outer script (λ w. Commands (Err halt) n (Err stops.NoMemory) entries w (told_world p outer script) before after []) (λ files left here f e s. (refl, ended)))
-
--- a command that a word gives
-named_answer : (n : ℕ) (result : Result (Unit {0}) Halt) (command : Result KeyCmd Stop) (given : Result KeyCmd Refusal) (entries : List FoundEntry) (w : World) (new : Option World) (before after : List ℕ) (made : List Taking) → Gives command given
-    → Commands result n command entries w new before after made → HasAnswer result (answered n (commanded_if (spot_of n entries) w given)) new before after made
-named_answer n result (Ok command) given entries w new before after made gives commands =
-    subst (λ (g : Result KeyCmd Refusal). HasAnswer result (answered n (commanded_if (spot_of n entries) w g)) new before after made) (sym gives) commands
-named_answer n result (Err (stops.Refused why)) given entries w new before after made gives commands =
-    subst (λ (g : Result KeyCmd Refusal). HasAnswer result (answered n (commanded_if (spot_of n entries) w g)) new before after made) (sym gives) commands
-named_answer n result (Err stops.NoMemory) given entries w new before after made gives commands =
-    subst (λ (r : Result (Unit {0}) Halt). HasAnswer r (answered n (commanded_if (spot_of n entries) w given)) new before after made) (sym commands.1)
-    (subst (λ xs. IsFront xs (answer_takings (answered n (commanded_if (spot_of n entries) w given)))) (sym commands.0) (front_nil _))
+pub performed_one : (n part : ℕ) (p new : Plain) (a d : Outer) (sa sd : ToldScript) (report : Report) (command : KeyCmd) (shown : Result Shown Refusal) (result : Result ℕ Halt) (before after : List ℕ)
+    → ActsAs n part a d (λ made. WhereTold (told_world p a sa) made (λ entries w. Executes (Ok shown) (commanded (spot_of n part entries) w command) (told_world new d sd) made))
+    → OnOk result (after ≡ before ++ shown_report n new.tree.rows report command shown) → IfOk result (λ count. count ≡ well_count shown) → OnErr result (result ≡ Err NoMemory)
+    → ActsAs n part a d (λ made. WhereTold (told_world p a sa) made (λ entries w. PerformsOne result n report command (commanded (spot_of n part entries) w command) (told_world new d sd) before after made))
+performed_one n part p new a d sa sd report command shown result before after acts printed counted ended = record {
+  made = acts.made;
+  takes = acts.takes;
+  said = (
+    acts.said.0,
+    λ entries agrees.
+        on_told (told_world p a sa) (λ w. Executes (Ok shown) (commanded (spot_of n part entries) w command) (told_world new d sd) acts.made)
+        (λ w. PerformsOne result n report command (commanded (spot_of n part entries) w command) (told_world new d sd) before after acts.made)
+        (λ w executes. performed_one_by n new d sd report command shown (commanded (spot_of n part entries) w command) result before after acts.made executes printed counted ended) (acts.said.1 entries agrees),
+  );
+}
 
 -- ---- a line
-
--- a line whose word names a command
-pub carried : (n : ℕ) (p new : Plain) (a d : Outer) (sa sd : ToldScript) (line : Line) (result : Result (Unit {0}) Halt) (command : Result KeyCmd Stop) (given : Result KeyCmd Refusal) (before after : List ℕ)
-    → ((entries : List FoundEntry) (w : World) → answer_of n entries w line ≡ answered n (commanded_if (spot_of n entries) w given)) → Gives command given
-    → Acts n a d (λ made. WhereTold (told_world p a sa) made (λ entries w. Commands result n command entries w (told_world new d sd) before after made))
-    → Acts n a d (λ made. WhereTold (told_world p a sa) made (λ entries w. HasAnswer result (answer_of n entries w line) (told_world new d sd) before after made))
-carried n p new a d sa sd line result command given before after is gives acts =
-    acts_told n a d (told_world p a sa) (λ entries w made. Commands result n command entries w (told_world new d sd) before after made)
-    (λ entries w made. HasAnswer result (answer_of n entries w line) (told_world new d sd) before after made)
-    (λ entries w made commands. subst (λ (answer : Answer). HasAnswer result answer (told_world new d sd) before after made) (sym (is entries w))
-    (named_answer n result command given entries w (told_world new d sd) before after made gives commands)) acts
-
--- a line that takes nothing
-still_turn : (n : ℕ) (p : Plain) (outer : Outer) (script : ToldScript) (turn : Turn) (result : Result (Unit {0}) Halt) (before after : List ℕ) → told_world p outer script ≡ Some turn.world → turn.takings ≡ []
-    → OnOk result (after ≡ before ++ turn.output) → OnErr result (result ≡ Err NoMemory) → HasAnswer result (Goes turn) (told_world p outer script) before after []
-still_turn n p outer script turn (Ok ok) before after told none printed ended = (told, printed, sym none)
-still_turn n p outer script turn (Err halt) before after told none printed ended =
-    let memory : halt ≡ NoMemory = cc in subst (λ h. HaltsIn h (Goes turn) []) (sym memory) (front_nil turn.takings)
-
-pub carried_still : (n : ℕ) (p : Plain) (outer : Outer) (script : ToldScript) (line : Line) (turn : World → Turn) (output : List ℕ) (result : Result (Unit {0}) Halt) (before after : List ℕ)
-    → ((entries : List FoundEntry) (w : World) → answer_of n entries w line ≡ Goes (turn w)) → ((w : World) → (turn w).world ≡ w) → ((w : World) → (turn w).takings ≡ [])
-    → ((w : World) → w.present.keys ≡ p → (turn w).output ≡ output) → OnOk result (after ≡ before ++ output) → OnErr result (result ≡ Err NoMemory)
-    → Acts n outer outer (λ made. WhereTold (told_world p outer script) made (λ entries w. HasAnswer result (answer_of n entries w line) (told_world p outer script) before after made))
-carried_still n p outer script line turn output result before after is world none out printed ended =
-    acts_not n outer (λ made. WhereTold (told_world p outer script) made (λ entries w. HasAnswer result (answer_of n entries w line) (told_world p outer script) before after made))
-    (λ entries agrees. told_each p outer script (λ w. HasAnswer result (answer_of n entries w line) (told_world p outer script) before after []) (λ files left here f e s.
-    let w : World = world_of p files left here in
-    let printed_by : OnOk result (after ≡ before ++ (turn w).output) = subst (λ (text : List ℕ). OnOk result (after ≡ before ++ text)) (sym (out w refl)) printed in
-    subst (λ (answer : Answer). HasAnswer result answer (told_world p outer script) before after []) (sym (is entries w))
-    (still_turn n p outer script (turn w) result before after (told_of p outer script files left here f e s ∙ ap (λ v. Some v) (sym (world w))) (none w) printed_by ended)))
 
 -- bytes that spell a line
 pub spelled_ok : (n : ℕ) (p new : Plain) (a d : Outer) (sa sd : ToldScript) (line : Line) (outcome : Result Line ℕ) (result : Result (Unit {0}) Halt) (before after : List ℕ) → outcome ≡ Ok line
@@ -285,11 +289,11 @@ spelled_ok n p new a d sa sd line outcome result before after spells acts =
 pub spelled_not : (n : ℕ) (p : Plain) (outer : Outer) (script : ToldScript) (stop : LineStop) (outcome : Result Line ℕ) (before after : List ℕ) → Spells (Err stop) outcome
     → Acts n outer outer (λ made. WhereTold (told_world p outer script) made (λ entries w. HasAnswer (Err (unspelled n stop)) (answer_if n entries w outcome) (told_world p outer script) before after made))
 spelled_not n p outer script (line_stops.Bad at) outcome before after bad =
-    acts_not n outer (λ made. WhereTold (told_world p outer script) made (λ entries w. HasAnswer (Err (BadLine n at)) (answer_if n entries w outcome) (told_world p outer script) before after made))
+    nothing_acts n outer (λ made. WhereTold (told_world p outer script) made (λ entries w. HasAnswer (Err (BadLine n at)) (answer_if n entries w outcome) (told_world p outer script) before after made))
     (λ entries agrees. told_each p outer script (λ w. HasAnswer (Err (BadLine n at)) (answer_if n entries w outcome) (told_world p outer script) before after [])
     (λ files left here f e s. subst (λ (o : Result Line ℕ). HaltsIn (BadLine n at) (answer_if n entries (world_of p files left here) o) []) (sym bad) (refl, refl, refl)))
 spelled_not n p outer script line_stops.NoMemory outcome before after none =
-    acts_not n outer (λ made. WhereTold (told_world p outer script) made (λ entries w. HasAnswer (Err NoMemory) (answer_if n entries w outcome) (told_world p outer script) before after made))
+    nothing_acts n outer (λ made. WhereTold (told_world p outer script) made (λ entries w. HasAnswer (Err NoMemory) (answer_if n entries w outcome) (told_world p outer script) before after made))
     (λ entries agrees. told_each p outer script (λ w. HasAnswer (Err NoMemory) (answer_if n entries w outcome) (told_world p outer script) before after []) (λ files left here f e s. front_nil _))
 
 -- ---- a call of the keystore that stops

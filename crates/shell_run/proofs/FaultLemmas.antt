@@ -1,15 +1,15 @@
 -- The refusals for a fetch and for a seed that failed come of the kit alone.
-use Rattle.std.proofs.Common.{◌≡◌, ◌≢◌, ◌⊎◌, ⊎_elim, inl, inr, ℕ, ◌≤◌, Bool, true, false, ◌||◌, ◌==◌, List, [], ◌∷◌, length, nat_lt, Option, Some, None, Result, Ok, Err, is_some, refl, ap, sym, ◌∙◌, subst, arith}
+use Rattle.std.proofs.Common.{◌≡◌, ◌≢◌, ◌⊎◌, ⊎_elim, inl, inr, ℕ, ◌≤◌, Bool, true, false, ◌||◌, ◌==◌, List, [], ◌∷◌, length, nat_lt, Option, Some, None, Result, Ok, Err, is_some, refl, ap, sym, ◌∙◌, arith}
 use Rattle.std.proofs.lemmas.Bool.{cases_Bool}
 use Rattle.std.specs.Prelude.{unwrap_or, if◌then◌else◌}
 use Rattle.std.specs.List.{AllByRecursion}
 use Rattle.std.specs.Char.{is_ascii_hexdigit}
 use Rattle.std.specs.List.{prefix_len}
-use Rattle.std.specs.Option.{option_map, option_or}
+use Rattle.std.specs.Option.{option_and_then, option_map, option_or}
 use Rattle.dataset_tree.specs.declared.kinds.Format.{Format}
 use Rattle.dataset_tree.specs.declared.kinds.Format.TheVariants.{Raw, Hex, Passphrase}
 use Rattle.dataset_tree.specs.declared.refusal.Refusal.{Refusal}
-use Rattle.dataset_tree.specs.declared.refusal.Refusal.TheVariants.{KeyFault, EntropyFault, KeyFileMissing, WrongKey, BadIters, BadMaterial, Busy, NoSuch}
+use Rattle.dataset_tree.specs.declared.refusal.Refusal.TheVariants.{KeyFault, EntropyFault, KeyFileMissing, KeyUnavailable, WrongKey, BadIters, BadMaterial, Busy, NoSuch}
 use Rattle.dataset_tree.specs.declared.refusal.MaterialFault.TheVariants.{Short, Long, Hex as NoDigit}
 use Rattle.dataset_tree.specs.Refusal.{number_of, Gives}
 use Rattle.encryption_roots.specs.declared.props.Options.{Options}
@@ -24,15 +24,19 @@ use Rattle.encryption_roots.specs.declared.kit.LineKit.{LineKit}
 use Rattle.encryption_roots.specs.declared.command.KeyCmd.{KeyCmd}
 use Rattle.encryption_roots.specs.declared.command.KeyCmd.TheVariants as commands
 use Rattle.encryption_roots.specs.ById.{at_id}
-use Rattle.dataset_tree.specs.Tree.{id_named}
+use Rattle.dataset_tree.specs.declared.tree.Row.{Row}
+use Rattle.dataset_tree.specs.Tree.{id_named, row_named}
 use Rattle.key_ciphers.specs.Ciphers.{ciphers}
 use Rattle.key_formats.specs.WrappingKey.{length_fault, material_fault, material_key, unless_faulty, without_line_feed, wkey}
-use Rattle.key_machine.specs.Create.{makes_root, makes_encrypted, parent_row, parent_key, create_cases, create_key, told_encrypted, new_format, new_iters, new_salt}
+use Rattle.key_machine.specs.Change.{change_cases, changed_format, changed_iters, changed_salt, told_changed, told_change}
+use Rattle.key_machine.specs.Create.{has_parent_key, makes_root, makes_encrypted, parent_row, parent_key, create_cases, create_key, told_encrypted, new_format, new_iters, new_salt}
 use Rattle.key_machine.specs.Fair.{WasAsked, SeedWasAsked, Suffices}
 use Rattle.key_machine.specs.Get.{get_cases}
+use Rattle.key_machine.specs.Inherit.{inherit_cases, key_above, row_above, told_inherit, told_inherited, unless_seed}
 use Rattle.key_machine.specs.Load.{load_cases, told_load, told_load_of, told_load_with}
 use Rattle.key_machine.specs.Plain.{Plain}
 use Rattle.key_machine.specs.Refusals.{first_of, first_refusal}
+use Rattle.key_machine.specs.Rekey.{fetched_old, fetches_old, old_key, old_place, old_wrong, present_key, present_props, told_anew}
 use Rattle.key_machine.specs.Reply.{Reply, Refused, Stepped, unless_refused}
 use Rattle.key_machine.specs.Step.{refusal_of, wanted, told, material_refusal, target, carried_out, in_use, key_step}
 use Rattle.key_machine.specs.Told.{Told, nothing_told, key_of, seed_of}
@@ -62,9 +66,15 @@ not_first why [] all found = cc
 not_first why (case ∷ cases) all found =
     ⊎_elim (λ (holds : case.0 ≡ true). all.0 (let here : Some case.1 ≡ Some why = rw holds at found in cc)) (λ (fails : case.0 ≡ false). not_first why cases all.1 (rw fails at found)) (cases_Bool case.0)
 
--- the fetch failed and the refusal says so, or the seed did
+-- the fetch of one of the keys failed and the refusal says so, or the seed did
 abbrev pub Failed : Refusal → LineKit → Type 0
-Failed why kit = ((kit.new_key ≡ fetches.Fault) × (why ≡ KeyFault)) ⊎ ((kit.seed ≡ seeds.Fault) × (why ≡ EntropyFault))
+Failed why kit = (((kit.old_key ≡ fetches.Fault) ⊎ (kit.new_key ≡ fetches.Fault)) × (why ≡ KeyFault)) ⊎ ((kit.seed ≡ seeds.Fault) × (why ≡ EntropyFault))
+
+by_old : (why : Refusal) (kit : LineKit) → (kit.old_key ≡ fetches.Fault) × (why ≡ KeyFault) → Failed why kit
+by_old why kit failed = inl (inl failed.0, failed.1)
+
+by_new : (why : Refusal) (kit : LineKit) → (kit.new_key ≡ fetches.Fault) × (why ≡ KeyFault) → Failed why kit
+by_new why kit failed = inl (inr failed.0, failed.1)
 
 module _ (why : Refusal) (taking : IsTaking why) where
   low : (other : Refusal) → number_of other ≤ 11 → other ≢ why
@@ -81,8 +91,12 @@ module _ (why : Refusal) (taking : IsTaking why) where
       not_first why (load_cases p name check_only) (low _ (omega arith), (low _ (omega arith), (low _ (omega arith), (low _ (omega arith), tt)))) found
   state_apart p (commands.Unload name) of_line found = not_first why (unload_cases p name) (low _ (omega arith), (low _ (omega arith), (low _ (omega arith), (low _ (omega arith), tt)))) found
   state_apart p (commands.Get name prop) of_line found = not_first why (get_cases p name) (low _ (omega arith), tt) found
-  state_apart p (commands.Change name opts load_first) of_line found = absurd of_line
-  state_apart p (commands.Inherit name load_first) of_line found = absurd of_line
+  state_apart p (commands.Change name opts load_first) of_line found =
+      not_first why (change_cases p name opts load_first)
+      (low _ (omega arith), (low _ (omega arith), (high _ (omega arith), (high _ (omega arith), (high _ (omega arith), (low _ (omega arith), tt)))))) found
+  state_apart p (commands.Inherit name load_first) of_line found =
+      not_first why (inherit_cases p name load_first)
+      (low _ (omega arith), (low _ (omega arith), (high _ (omega arith), (low _ (omega arith), (high _ (omega arith), (low _ (omega arith), (low _ (omega arith), tt))))))) found
   state_apart p (commands.Mount name) of_line found = absurd of_line
   state_apart p (commands.Unmount name) of_line found = absurd of_line
   state_apart p (commands.Clone from name) of_line found = absurd of_line
@@ -106,8 +120,10 @@ module _ (why : Refusal) (taking : IsTaking why) where
   carried_apart p (commands.Unload name) of_line facts busy (Some root) refused = unloaded_apart p root busy refused
   carried_apart p (commands.Get name prop) of_line facts busy None refused = no_such_apart refused
   carried_apart p (commands.Get name prop) of_line facts busy (Some id) refused = cc
-  carried_apart p (commands.Change name opts load_first) of_line facts busy at refused = absurd of_line
-  carried_apart p (commands.Inherit name load_first) of_line facts busy at refused = absurd of_line
+  carried_apart p (commands.Change name opts load_first) of_line facts busy None refused = no_such_apart refused
+  carried_apart p (commands.Change name opts load_first) of_line facts busy (Some id) refused = cc
+  carried_apart p (commands.Inherit name load_first) of_line facts busy None refused = no_such_apart refused
+  carried_apart p (commands.Inherit name load_first) of_line facts busy (Some id) refused = cc
   carried_apart p (commands.Mount name) of_line facts busy at refused = absurd of_line
   carried_apart p (commands.Unmount name) of_line facts busy at refused = absurd of_line
   carried_apart p (commands.Clone from name) of_line facts busy at refused = absurd of_line
@@ -127,13 +143,35 @@ module _ (why : Refusal) (taking : IsTaking why) where
   create_material_is (Some first) found = found
   create_material_is None found = absurd (cc)
 
+  change_material_is : (fault : Option Refusal) (wrong : Option ℕ) → first_refusal (option_map (λ dataset. WrongKey dataset) wrong ∷ fault ∷ []) ≡ Some why → fault ≡ Some why
+  change_material_is fault (Some dataset) found = absurd (low (WrongKey dataset) (omega arith) (cc))
+  change_material_is fault None found = create_material_is fault found
+
+  -- behind a fault of the old key
+  inherit_later_is : (fault : Option Refusal) (wrong : Option ℕ) (has_above : Bool)
+      → first_refusal (option_map (λ dataset. WrongKey dataset) wrong ∷ (if has_above then None else Some KeyUnavailable) ∷ fault ∷ []) ≡ Some why → fault ≡ Some why
+  inherit_later_is fault (Some dataset) has_above found = absurd (low (WrongKey dataset) (omega arith) (cc))
+  inherit_later_is fault None true found = create_material_is fault found
+  inherit_later_is fault None false found = absurd (low KeyUnavailable (omega arith) (cc))
+
+  inherit_material_is : (fault : Option Refusal) (wrong : Option ℕ) (has_above : Bool)
+      → first_refusal (option_and_then unless_seed fault ∷ option_map (λ dataset. WrongKey dataset) wrong ∷ (if has_above then None else Some KeyUnavailable) ∷ fault ∷ []) ≡ Some why → fault ≡ Some why
+  inherit_material_is None wrong has_above found = inherit_later_is None wrong has_above found
+  inherit_material_is (Some first) wrong has_above found = by_seed (number_of first == number_of EntropyFault) found where
+    by_seed : (b : Bool)
+        → first_refusal ((if b then None else Some first) ∷ option_map (λ dataset. WrongKey dataset) wrong ∷ (if has_above then None else Some KeyUnavailable) ∷ Some first ∷ []) ≡ Some why
+        → Some first ≡ Some why
+    by_seed true found = inherit_later_is (Some first) wrong has_above found
+    by_seed false found = found
+
   material_is : (p : Plain) (command : KeyCmd) → IsOfLine command → (facts : Told) → material_refusal p command facts ≡ Some why → facts.fault ≡ Some why
   material_is p (commands.Create name opts) of_line facts found = create_material_is facts.fault found
   material_is p (commands.Load name check_only place) of_line facts found = load_material_is facts.fault facts.wrong found
   material_is p (commands.Unload name) of_line facts found = absurd (cc)
   material_is p (commands.Get name prop) of_line facts found = absurd (cc)
-  material_is p (commands.Change name opts load_first) of_line facts found = absurd of_line
-  material_is p (commands.Inherit name load_first) of_line facts found = absurd of_line
+  material_is p (commands.Change name opts load_first) of_line facts found = change_material_is facts.fault facts.wrong found
+  material_is p (commands.Inherit name load_first) of_line facts found =
+      inherit_material_is facts.fault facts.wrong (has_parent_key p (row_above p (row_named name p.tree.rows))) found
   material_is p (commands.Mount name) of_line facts found = absurd of_line
   material_is p (commands.Unmount name) of_line facts found = absurd of_line
   material_is p (commands.Clone from name) of_line facts found = absurd of_line
@@ -216,7 +254,7 @@ module _ (why : Refusal) (taking : IsTaking why) where
       let key : Result (List ℕ) Refusal = create_key ciphers p name opts kit in
       encrypted_is (makes_encrypted p name opts) (told_encrypted ciphers p name opts key (seed_of kit.seed)) kit
       (λ encrypted first. ⊎_elim
-      (λ by_key. inl (create_key_is (makes_root opts) (key_of ciphers (new_format opts) (new_iters opts) (new_salt ciphers opts (seed_of kit.seed)) kit.new_key) (parent_key p (parent_row p name)) kit.new_key
+      (λ by_key. by_new why kit (create_key_is (makes_root opts) (key_of ciphers (new_format opts) (new_iters opts) (new_salt ciphers opts (seed_of kit.seed)) kit.new_key) (parent_key p (parent_row p name)) kit.new_key
       (λ root. key_fault_is (new_format opts) (new_iters opts) (new_salt ciphers opts (seed_of kit.seed)) kit.new_key (asked root)) by_key))
       (λ by_seed. inr (seed_fault_is kit.seed (seed_asked encrypted) by_seed)) (encrypted_fault p name opts key (seed_of kit.seed) first)) fault
 
@@ -227,11 +265,47 @@ module _ (why : Refusal) (taking : IsTaking why) where
   load_of_fault : (p : Plain) (kit : LineKit) (root : ℕ) (props : Option Props) → WasAsked kit.new_key → (told_load_of ciphers p kit root props).fault ≡ Some why → Failed why kit
   load_of_fault p kit root None asked fault = absurd (cc)
   load_of_fault p kit root (Some props) asked fault =
-      inl (key_fault_is props.format props.iters props.salt kit.new_key asked (load_with_fault p root (key_of ciphers props.format props.iters props.salt kit.new_key) fault))
+      by_new why kit (key_fault_is props.format props.iters props.salt kit.new_key asked (load_with_fault p root (key_of ciphers props.format props.iters props.salt kit.new_key) fault))
 
   load_fault : (p : Plain) (kit : LineKit) (found : Option ℕ) → WasAsked kit.new_key → (told_load ciphers p kit found).fault ≡ Some why → Failed why kit
   load_fault p kit None asked fault = absurd (cc)
   load_fault p kit (Some root) asked fault = load_of_fault p kit root (at_id root p.roots) asked fault
+
+  -- what is told of records anew has the fault of the old key, of the new one or of the seed
+  anew_fault : (wrong : List ℕ → Option ℕ) (tells : (old new seed : List ℕ) → Told) (old new seed : Result (List ℕ) Refusal) → ((a b c : List ℕ) → (tells a b c).fault ≡ None)
+      → (told_anew wrong tells old new seed).fault ≡ Some why → (old ≡ Err why) ⊎ ((new ≡ Err why) ⊎ (seed ≡ Err why))
+  anew_fault wrong tells (Err first) new seed none fault = inl (cc)
+  anew_fault wrong tells (Ok old) (Err first) seed none fault = inr (inl (cc))
+  anew_fault wrong tells (Ok old) (Ok new) (Err first) none fault = inr (inr (cc))
+  anew_fault wrong tells (Ok old) (Ok new) (Ok seed) none fault = absurd (let no_fault : None ≡ Some why = sym (none old new seed) ∙ fault in cc)
+
+  -- the old key is fetched, or it has no fault
+  old_key_is : (asks : Bool) (props : Option Props) (key : List ℕ) (fetched : Fetched)
+      → (is_some (let place : Option Location = if asks then option_map (λ props. props.place) props else None in place) ≡ true → WasAsked fetched)
+      → (if asks then fetched_old ciphers props fetched else Ok key) ≡ Err why → (fetched ≡ fetches.Fault) × (why ≡ KeyFault)
+  old_key_is false props key fetched asked fault = absurd (cc)
+  old_key_is true None key fetched asked fault = absurd (cc)
+  old_key_is true (Some props) key fetched asked fault = key_fault_is props.format props.iters props.salt fetched (asked refl) fault
+
+  change_fault : (p : Plain) (opts : Options) (load_first : Bool) (kit : LineKit) (row : Option Row) → (is_some (old_place p load_first row) ≡ true → WasAsked kit.old_key) → WasAsked kit.new_key → SeedWasAsked kit.seed
+      → (told_change ciphers p opts load_first kit (option_map (λ found. found.id) row)).fault ≡ Some why → Failed why kit
+  change_fault p opts load_first kit None old_asked new_asked seed_asked fault = absurd (cc)
+  change_fault p opts load_first kit (Some row) old_asked new_asked seed_asked fault =
+      let own : Option Props = at_id row.id p.roots in
+      let salt : ℕ = changed_salt ciphers own opts (seed_of kit.seed) in
+      ⊎_elim (λ old. by_old why kit (old_key_is (fetches_old p row.id load_first) (present_props p row.id) (present_key p row.id) kit.old_key old_asked old))
+      (λ behind. ⊎_elim (λ new. by_new why kit (key_fault_is (changed_format own opts) (changed_iters own opts) salt kit.new_key new_asked new)) (λ seed. inr (seed_fault_is kit.seed seed_asked seed)) behind)
+      (anew_fault (old_wrong ciphers p row.id load_first) (told_changed ciphers p row.id opts load_first) (old_key ciphers p row.id load_first kit.old_key)
+      (key_of ciphers (changed_format own opts) (changed_iters own opts) salt kit.new_key) (seed_of kit.seed) (λ a b c. refl) fault)
+
+  inherit_fault : (p : Plain) (load_first : Bool) (kit : LineKit) (row : Option Row) → (is_some (old_place p load_first row) ≡ true → WasAsked kit.old_key) → SeedWasAsked kit.seed
+      → (told_inherit ciphers p load_first kit (option_map (λ found. found.id) row)).fault ≡ Some why → Failed why kit
+  inherit_fault p load_first kit None old_asked seed_asked fault = absurd (cc)
+  inherit_fault p load_first kit (Some row) old_asked seed_asked fault =
+      ⊎_elim (λ old. by_old why kit (old_key_is (fetches_old p row.id load_first) (present_props p row.id) (present_key p row.id) kit.old_key old_asked old))
+      (λ behind. ⊎_elim (λ new. absurd (let had : Ok (key_above p row.id) ≡ Err why = new in cc)) (λ seed. inr (seed_fault_is kit.seed seed_asked seed)) behind)
+      (anew_fault (old_wrong ciphers p row.id load_first) (told_inherited ciphers p row.id load_first) (old_key ciphers p row.id load_first kit.old_key)
+      (Ok (key_above p row.id)) (seed_of kit.seed) (λ a b c. refl) fault)
 
   kit_fault : (p : Plain) (command : KeyCmd) (kit : LineKit) → IsOfLine command → Suffices p command kit → (told ciphers p command kit).fault ≡ Some why → Failed why kit
   kit_fault p (commands.Create name opts) kit of_line suffices fault =
@@ -239,8 +313,10 @@ module _ (why : Refusal) (taking : IsTaking why) where
   kit_fault p (commands.Load name check_only place) kit of_line suffices fault = load_fault p kit (id_named name p.tree.rows) (suffices.new_key refl) fault
   kit_fault p (commands.Unload name) kit of_line suffices fault = absurd (cc)
   kit_fault p (commands.Get name prop) kit of_line suffices fault = absurd (cc)
-  kit_fault p (commands.Change name opts load_first) kit of_line suffices fault = absurd of_line
-  kit_fault p (commands.Inherit name load_first) kit of_line suffices fault = absurd of_line
+  kit_fault p (commands.Change name opts load_first) kit of_line suffices fault =
+      change_fault p opts load_first kit (row_named name p.tree.rows) suffices.old_key (suffices.new_key refl) (suffices.seed refl) fault
+  kit_fault p (commands.Inherit name load_first) kit of_line suffices fault =
+      inherit_fault p load_first kit (row_named name p.tree.rows) suffices.old_key (suffices.seed refl) fault
   kit_fault p (commands.Mount name) kit of_line suffices fault = absurd of_line
   kit_fault p (commands.Unmount name) kit of_line suffices fault = absurd of_line
   kit_fault p (commands.Clone from name) kit of_line suffices fault = absurd of_line
@@ -292,11 +368,14 @@ key_taking = record { low = omega arith; high = omega arith }
 pub entropy_taking : IsTaking EntropyFault
 entropy_taking = record { low = omega arith; high = omega arith }
 
-pub by_fetch : (kit : LineKit) → Failed KeyFault kit → kit.new_key ≡ fetches.Fault
+pub by_fetch : (kit : LineKit) → Failed KeyFault kit → (kit.old_key ≡ fetches.Fault) ⊎ (kit.new_key ≡ fetches.Fault)
 by_fetch kit failed = ⊎_elim (λ key. key.0) (λ seed. absurd (let same : KeyFault ≡ EntropyFault = seed.1 in cc)) failed
 
 pub by_fill : (kit : LineKit) → Failed EntropyFault kit → kit.seed ≡ seeds.Fault
 by_fill kit failed = ⊎_elim (λ key. absurd (let same : EntropyFault ≡ KeyFault = key.1 in cc)) (λ seed. seed.0) failed
+
+pub either_rose : (before now : ℕ) (old new : Fetched) → (old ≡ fetches.Fault → Rose before now) → (new ≡ fetches.Fault → Rose before now) → (old ≡ fetches.Fault) ⊎ (new ≡ fetches.Fault) → Rose before now
+either_rose before now old new by_old by_new failed = ⊎_elim by_old by_new failed
 
 pub Rose-later : (first before now : ℕ) → first ≤ before → Rose before now → Rose first now
 Rose-later first before now later rose = omega arith

@@ -1,5 +1,5 @@
 -- What is taken for a command: the old key, the new key and a seed.
-use Rattle.std.proofs.Common.{◌≡◌, ◌⊎◌, inl, inr, ⊎_elim, ◌<◌, ℕ, ◌+◌, ◌≤◌, Bool, true, false, ◌||◌, List, [], ◌∷◌, ◌++◌, drop, if◌then◌else◌, Option, Some, None, Result, Ok, Err, IsErr, IsErrAnd, IfErr, IfOk, IfSome, IsSomeAnd, refl, ap, sym, ◌∙◌, subst, append_assoc, arith}
+use Rattle.std.proofs.Common.{◌≡◌, ◌⊎◌, inl, inr, ⊎_elim, ◌<◌, ℕ, ◌+◌, ◌≤◌, Bool, true, false, ◌||◌, List, [], ◌∷◌, ◌++◌, drop, if◌then◌else◌, Option, Some, None, Result, Ok, Err, IsErr, IsErrAnd, IfSome, IsSomeAnd, refl, ap, sym, ◌∙◌, subst, append_assoc, arith}
 use Rattle.std.specs.declared.alloc.AllocError.{AllocError}
 use Rattle.std.specs.List.{AllByRecursion}
 use Rattle.std.proofs.lemmas.List.{append-nil}
@@ -19,7 +19,7 @@ use Rattle.shell_run.specs.declared.ending.Halt.TheVariants.{BadLine, ReadFault,
 use Rattle.shell_run.specs.declared.found.FoundEntry.{FoundEntry}
 use Rattle.shell_run.specs.declared.found.FoundKind.{FoundKind}
 use Rattle.shell_run.specs.declared.found.FoundKind.TheVariants.{OldKey, NewKey, Seed}
-use Rattle.shell_run.specs.Answers.{Acts, Agrees, Fetches, Fills, FillsFrom, GivesKit, IsCalled, PromptGives, PromptStops, TakesKit, fetch_fails, is_fault, is_seed_fault, spot_of, supply_takings, taking_with}
+use Rattle.shell_run.specs.Answers.{Acts, ActsAs, Agrees, Fetches, Fills, FillsFrom, GivesKit, IsCalled, PromptGives, PromptStops, TakesKit, is_fault, is_seed_fault, spot_of, supply_takings, taking_with}
 use Rattle.shell_run.specs.Outer.{Calls, Outer, Takes, left_after}
 use Rattle.shell_run.specs.Ran.{IsFront}
 use Rattle.shell_run.specs.Script.{Script, ToldScript, Given, Gives, Stops, prompted, script_told}
@@ -132,107 +132,110 @@ takes_listless here files fetches fills entropy old new same =
 
 -- ---- their order
 
--- a taking of line n, of no other part, whose kind stands in this range
-record IsWithin (n low high : ℕ) (taking : Taking) : Type 0 where
+-- a taking of line n, of this part of it, whose kind stands in this range
+record IsWithin (n own low high : ℕ) (taking : Taking) : Type 0 where
   line : taking.entry.line ≡ n
-  part : taking.entry.part ≡ 0
+  part : taking.entry.part ≡ own
   above : low ≤ rank taking.entry.what
   below : rank taking.entry.what < high
 
-abbrev entry_of : ℕ → FoundKind → FoundEntry
-entry_of n what = record { line = n; part = 0; what = what }
+abbrev entry_of : (n part : ℕ) → FoundKind → FoundEntry
+entry_of n part what = record { line = n; part = part; what = what }
 
-within_wider : (n low middle high : ℕ) (made : List Taking) → middle ≤ high → AllByRecursion (IsWithin n low middle) made → AllByRecursion (IsWithin n low high) made
-within_wider n low middle high made wider within =
-    all_weaker (IsWithin n low middle) (IsWithin n low high) made (λ taking p. record { line = p.line; part = p.part; above = p.above; below = omega (arith, p.below, wider) }) within
+all_of_part : (n part low high : ℕ) (made : List Taking) → AllByRecursion (IsWithin n part low high) made → AllByRecursion (λ taking. taking.entry.part ≡ part) made
+all_of_part n part low high made within = all_weaker (IsWithin n part low high) (λ taking. taking.entry.part ≡ part) made (λ taking p. p.part) within
 
-within_from : (n lower low high : ℕ) (made : List Taking) → lower ≤ low → AllByRecursion (IsWithin n low high) made → AllByRecursion (IsWithin n lower high) made
-within_from n lower low high made wider within =
-    all_weaker (IsWithin n low high) (IsWithin n lower high) made (λ taking p. record { line = p.line; part = p.part; above = omega (arith, p.above, wider); below = p.below }) within
+within_wider : (n part low middle high : ℕ) (made : List Taking) → middle ≤ high → AllByRecursion (IsWithin n part low middle) made → AllByRecursion (IsWithin n part low high) made
+within_wider n part low middle high made wider within =
+    all_weaker (IsWithin n part low middle) (IsWithin n part low high) made (λ taking p. record { line = p.line; part = p.part; above = p.above; below = omega (arith, p.below, wider) }) within
 
-order_within : (n low middle high : ℕ) (xs ys : List Taking) → AllByRecursion (IsWithin n low middle) xs → AllByRecursion (IsWithin n middle high) ys → AreInOrder (entries_made xs) → AreInOrder (entries_made ys)
+within_from : (n part lower low high : ℕ) (made : List Taking) → lower ≤ low → AllByRecursion (IsWithin n part low high) made → AllByRecursion (IsWithin n part lower high) made
+within_from n part lower low high made wider within =
+    all_weaker (IsWithin n part low high) (IsWithin n part lower high) made (λ taking p. record { line = p.line; part = p.part; above = omega (arith, p.above, wider); below = p.below }) within
+
+order_within : (n part low middle high : ℕ) (xs ys : List Taking) → AllByRecursion (IsWithin n part low middle) xs → AllByRecursion (IsWithin n part middle high) ys → AreInOrder (entries_made xs) → AreInOrder (entries_made ys)
     → AreInOrder (entries_made (xs ++ ys))
-order_within n low middle high xs ys =
-    order_both (IsWithin n low middle) (IsWithin n middle high) xs ys (λ x y p q. inr (p.line ∙ sym q.line, inr (p.part ∙ sym q.part, omega (arith, p.below, q.above))))
+order_within n part low middle high xs ys =
+    order_both (IsWithin n part low middle) (IsWithin n part middle high) xs ys (λ x y p q. inr (p.line ∙ sym q.line, inr (p.part ∙ sym q.part, omega (arith, p.below, q.above))))
 
-fetch_within : (n : ℕ) (what : FoundKind) (fails : Bool) (place : Option Location) → AllByRecursion (IsWithin n (rank what) (rank what + 1)) (fetch_at (taking_with (entry_of n what) fails) place)
-fetch_within n what fails None = tt
-fetch_within n what fails (Some Prompt) = tt
-fetch_within n what fails (Some (File path)) = (record { line = refl; part = refl; above = omega arith; below = omega arith }, tt)
+fetch_within : (n part : ℕ) (what : FoundKind) (fails : Bool) (place : Option Location) → AllByRecursion (IsWithin n part (rank what) (rank what + 1)) (fetch_at (taking_with (entry_of n part what) fails) place)
+fetch_within n part what fails None = tt
+fetch_within n part what fails (Some Prompt) = tt
+fetch_within n part what fails (Some (File path)) = (record { line = refl; part = refl; above = omega arith; below = omega arith }, tt)
 
-fill_within : (n : ℕ) (fails wanted : Bool) → AllByRecursion (IsWithin n 2 3) (fill_at (taking_with (entry_of n Seed) fails) wanted)
-fill_within n fails false = tt
-fill_within n fails true = (record { line = refl; part = refl; above = omega arith; below = omega arith }, tt)
+fill_within : (n part : ℕ) (fails wanted : Bool) → AllByRecursion (IsWithin n part 2 3) (fill_at (taking_with (entry_of n part Seed) fails) wanted)
+fill_within n part fails false = tt
+fill_within n part fails true = (record { line = refl; part = refl; above = omega arith; below = omega arith }, tt)
 
-front_within : (n low high : ℕ) (made whole : List Taking) → IsFront made whole → AllByRecursion (IsWithin n low high) whole → AllByRecursion (IsWithin n low high) made
-front_within n low high made whole front within = all_first (IsWithin n low high) made front.0 (subst (AllByRecursion (IsWithin n low high)) front.1 within)
+front_within : (n part low high : ℕ) (made whole : List Taking) → IsFront made whole → AllByRecursion (IsWithin n part low high) whole → AllByRecursion (IsWithin n part low high) made
+front_within n part low high made whole front within = all_first (IsWithin n part low high) made front.0 (subst (AllByRecursion (IsWithin n part low high)) front.1 within)
 
 -- a fetch took what belongs to it, whatever it answered
-fetched_within : (n : ℕ) (what : FoundKind) (result : Result Fetched Halt) (place : Option Location) (files : Option (List (List ℕ × List ℕ))) (old new : ToldScript) (made : List Taking) → Fetches result (entry_of n what) place files old new made
-    → AllByRecursion (IsWithin n (rank what) (rank what + 1)) made
-fetched_within n what (Ok fetched) place files old new made said = subst (AllByRecursion (IsWithin n (rank what) (rank what + 1))) (sym said.0) (fetch_within n what (is_fault fetched) place)
-fetched_within n what (Err (BadLine number at)) place files old new made said = subst (AllByRecursion (IsWithin n (rank what) (rank what + 1))) (sym said.0) tt
-fetched_within n what (Err ReadFault) place files old new made said = subst (AllByRecursion (IsWithin n (rank what) (rank what + 1))) (sym said) tt
-fetched_within n what (Err NoMemory) place files old new made said =
-    front_within n (rank what) (rank what + 1) made (fetch_at (taking_with (entry_of n what) false) place) said (fetch_within n what false place)
+fetched_within : (n part : ℕ) (what : FoundKind) (result : Result Fetched Halt) (place : Option Location) (files : Option (List (List ℕ × List ℕ))) (old new : ToldScript) (made : List Taking) → Fetches result (entry_of n part what) place files old new made
+    → AllByRecursion (IsWithin n part (rank what) (rank what + 1)) made
+fetched_within n part what (Ok fetched) place files old new made said = subst (AllByRecursion (IsWithin n part (rank what) (rank what + 1))) (sym said.0) (fetch_within n part what (is_fault fetched) place)
+fetched_within n part what (Err (BadLine number at)) place files old new made said = subst (AllByRecursion (IsWithin n part (rank what) (rank what + 1))) (sym said.0) tt
+fetched_within n part what (Err ReadFault) place files old new made said = subst (AllByRecursion (IsWithin n part (rank what) (rank what + 1))) (sym said) tt
+fetched_within n part what (Err NoMemory) place files old new made said =
+    front_within n part (rank what) (rank what + 1) made (fetch_at (taking_with (entry_of n part what) false) place) said (fetch_within n part what false place)
 
-filled_within : (n : ℕ) (result : Result SeedGot AllocError) (wanted : Bool) (entropy : Option (List ℕ)) (made : List Taking) → Fills result (entry_of n Seed) wanted entropy made → AllByRecursion (IsWithin n 2 3) made
-filled_within n (Ok seed) wanted entropy made said = subst (AllByRecursion (IsWithin n 2 3)) (sym said.0) (fill_within n (is_seed_fault seed) wanted)
-filled_within n (Err stop) wanted entropy made said = subst (AllByRecursion (IsWithin n 2 3)) (sym said) tt
+filled_within : (n part : ℕ) (result : Result SeedGot AllocError) (wanted : Bool) (entropy : Option (List ℕ)) (made : List Taking) → Fills result (entry_of n part Seed) wanted entropy made → AllByRecursion (IsWithin n part 2 3) made
+filled_within n part (Ok seed) wanted entropy made said = subst (AllByRecursion (IsWithin n part 2 3)) (sym said.0) (fill_within n part (is_seed_fault seed) wanted)
+filled_within n part (Err stop) wanted entropy made said = subst (AllByRecursion (IsWithin n part 2 3)) (sym said) tt
 
 -- ---- what the line's own entries say of it
 
-fetch_agrees : (n : ℕ) (entries : List FoundEntry) (what : FoundKind) (fails : Bool) (place : Option Location) → Agrees entries (fetch_at (taking_with (entry_of n what) fails) place)
-    → fetch_at (taking_with (entry_of n what) fails) place ≡ fetch_at (taking_at (spot_of n entries) what) place
-fetch_agrees n entries what fails None agrees = refl
-fetch_agrees n entries what fails (Some Prompt) agrees = refl
-fetch_agrees n entries what fails (Some (File path)) agrees = ap (λ b. taking_with (entry_of n what) b ∷ []) (sym agrees.0)
+fetch_agrees : (n part : ℕ) (entries : List FoundEntry) (what : FoundKind) (fails : Bool) (place : Option Location) → Agrees entries (fetch_at (taking_with (entry_of n part what) fails) place)
+    → fetch_at (taking_with (entry_of n part what) fails) place ≡ fetch_at (taking_at (spot_of n part entries) what) place
+fetch_agrees n part entries what fails None agrees = refl
+fetch_agrees n part entries what fails (Some Prompt) agrees = refl
+fetch_agrees n part entries what fails (Some (File path)) agrees = ap (λ b. taking_with (entry_of n part what) b ∷ []) (sym agrees.0)
 
-material_agrees : (n : ℕ) (entries : List FoundEntry) (what : FoundKind) (fails : Bool) (place : Option Location) (files : List (List ℕ × List ℕ)) (script : Script) → Agrees entries (fetch_at (taking_with (entry_of n what) fails) place)
-    → material_at (taking_with (entry_of n what) fails) files script place ≡ material_at (taking_at (spot_of n entries) what) files script place
-material_agrees n entries what fails None files script agrees = refl
-material_agrees n entries what fails (Some Prompt) files script agrees = refl
-material_agrees n entries what fails (Some (File path)) files script agrees = ap (λ b. material_at (taking_with (entry_of n what) b) files script (Some (File path))) (sym agrees.0)
+material_agrees : (n part : ℕ) (entries : List FoundEntry) (what : FoundKind) (fails : Bool) (place : Option Location) (files : List (List ℕ × List ℕ)) (script : Script) → Agrees entries (fetch_at (taking_with (entry_of n part what) fails) place)
+    → material_at (taking_with (entry_of n part what) fails) files script place ≡ material_at (taking_at (spot_of n part entries) what) files script place
+material_agrees n part entries what fails None files script agrees = refl
+material_agrees n part entries what fails (Some Prompt) files script agrees = refl
+material_agrees n part entries what fails (Some (File path)) files script agrees = ap (λ b. material_at (taking_with (entry_of n part what) b) files script (Some (File path))) (sym agrees.0)
 
 -- only a prompt ends a run
-stops_agree : (n : ℕ) (entries : List FoundEntry) (what : FoundKind) (place : Option Location) (files : List (List ℕ × List ℕ)) (script : Script) (number at : ℕ) → material_at (taking_with (entry_of n what) false) files script place ≡ Stops number at
-    → material_at (taking_at (spot_of n entries) what) files script place ≡ Stops number at
-stops_agree n entries what None files script number at stops = absurd (cc)
-stops_agree n entries what (Some Prompt) files script number at stops = stops
-stops_agree n entries what (Some (File path)) files script number at stops = absurd (cc)
+stops_agree : (n part : ℕ) (entries : List FoundEntry) (what : FoundKind) (place : Option Location) (files : List (List ℕ × List ℕ)) (script : Script) (number at : ℕ) → material_at (taking_with (entry_of n part what) false) files script place ≡ Stops number at
+    → material_at (taking_at (spot_of n part entries) what) files script place ≡ Stops number at
+stops_agree n part entries what None files script number at stops = absurd (cc)
+stops_agree n part entries what (Some Prompt) files script number at stops = stops
+stops_agree n part entries what (Some (File path)) files script number at stops = absurd (cc)
 
 front_nil : {A : Type 0} (whole : List A) → IsFront [] whole
 front_nil whole = (whole, refl)
 
-front_agrees : (n : ℕ) (entries : List FoundEntry) (what : FoundKind) (place : Option Location) (made : List Taking) → Agrees entries made → IsFront made (fetch_at (taking_with (entry_of n what) false) place)
-    → IsFront made (fetch_at (taking_at (spot_of n entries) what) place)
-front_agrees n entries what None made agrees front = front
-front_agrees n entries what (Some Prompt) made agrees front = front
-front_agrees n entries what (Some (File path)) [] agrees front = front_nil _
-front_agrees n entries what (Some (File path)) (taking ∷ made) agrees front =
-    let same : taking_with (entry_of n what) false ≡ taking = let e : taking_with (entry_of n what) false ∷ [] ≡ taking ∷ (made ++ front.0) = front.1 in cc in
-    let says : has_entry (entry_of n what) entries ≡ false = subst (λ (t : Taking). has_entry t.entry entries ≡ t.fails) (sym same) agrees.0 in
-    subst (λ (b : Bool). IsFront (taking ∷ made) (taking_with (entry_of n what) b ∷ [])) (sym says) front
+front_agrees : (n part : ℕ) (entries : List FoundEntry) (what : FoundKind) (place : Option Location) (made : List Taking) → Agrees entries made → IsFront made (fetch_at (taking_with (entry_of n part what) false) place)
+    → IsFront made (fetch_at (taking_at (spot_of n part entries) what) place)
+front_agrees n part entries what None made agrees front = front
+front_agrees n part entries what (Some Prompt) made agrees front = front
+front_agrees n part entries what (Some (File path)) [] agrees front = front_nil _
+front_agrees n part entries what (Some (File path)) (taking ∷ made) agrees front =
+    let same : taking_with (entry_of n part what) false ≡ taking = let e : taking_with (entry_of n part what) false ∷ [] ≡ taking ∷ (made ++ front.0) = front.1 in cc in
+    let says : has_entry (entry_of n part what) entries ≡ false = subst (λ (t : Taking). has_entry t.entry entries ≡ t.fails) (sym same) agrees.0 in
+    subst (λ (b : Bool). IsFront (taking ∷ made) (taking_with (entry_of n part what) b ∷ [])) (sym says) front
 
-seed_agrees : (n : ℕ) (entries : List FoundEntry) (left : List ℕ) (fails : Bool) → has_entry (entry_of n Seed) entries ≡ fails → fails || is_short left ≡ fails → taking_with (entry_of n Seed) fails ≡ seed_at (spot_of n entries) left
-seed_agrees n entries left fails says enough =
-    ap (λ b. taking_with (entry_of n Seed) b) (sym (ap (λ b. b || is_short left) says ∙ enough))
+seed_agrees : (n part : ℕ) (entries : List FoundEntry) (left : List ℕ) (fails : Bool) → has_entry (entry_of n part Seed) entries ≡ fails → fails || is_short left ≡ fails → taking_with (entry_of n part Seed) fails ≡ seed_at (spot_of n part entries) left
+seed_agrees n part entries left fails says enough =
+    ap (λ b. taking_with (entry_of n part Seed) b) (sym (ap (λ b. b || is_short left) says ∙ enough))
 
-fill_agrees : (n : ℕ) (entries : List FoundEntry) (left : List ℕ) (fails wanted : Bool) → (wanted ≡ true → fails || is_short left ≡ fails) → Agrees entries (fill_at (taking_with (entry_of n Seed) fails) wanted)
-    → (fill_at (taking_with (entry_of n Seed) fails) wanted ≡ fill_at (seed_at (spot_of n entries) left) wanted)
-    × (seed_from (taking_with (entry_of n Seed) fails) left wanted ≡ seed_from (seed_at (spot_of n entries) left) left wanted)
-fill_agrees n entries left fails false enough agrees = (refl, refl)
-fill_agrees n entries left fails true enough agrees =
-    let same : taking_with (entry_of n Seed) fails ≡ seed_at (spot_of n entries) left = seed_agrees n entries left fails agrees.0 (enough refl) in
+fill_agrees : (n part : ℕ) (entries : List FoundEntry) (left : List ℕ) (fails wanted : Bool) → (wanted ≡ true → fails || is_short left ≡ fails) → Agrees entries (fill_at (taking_with (entry_of n part Seed) fails) wanted)
+    → (fill_at (taking_with (entry_of n part Seed) fails) wanted ≡ fill_at (seed_at (spot_of n part entries) left) wanted)
+    × (seed_from (taking_with (entry_of n part Seed) fails) left wanted ≡ seed_from (seed_at (spot_of n part entries) left) left wanted)
+fill_agrees n part entries left fails false enough agrees = (refl, refl)
+fill_agrees n part entries left fails true enough agrees =
+    let same : taking_with (entry_of n part Seed) fails ≡ seed_at (spot_of n part entries) left = seed_agrees n part entries left fails agrees.0 (enough refl) in
     (ap (λ t. fill_at t true) same, ap (λ t. seed_from t left true) same)
 
 -- ---- a fetch leaves the entropy
 
-fetch_fills : (n : ℕ) (what : FoundKind) → is_fetch what ≡ true → (fails : Bool) (place : Option Location) → fills_of (fetch_at (taking_with (entry_of n what) fails) place) ≡ []
-fetch_fills n what fetch fails None = refl
-fetch_fills n what fetch fails (Some Prompt) = refl
-fetch_fills n what fetch fails (Some (File path)) = by_kind what fetch where
-  by_kind : (what : FoundKind) → is_fetch what ≡ true → fills_of (taking_with (entry_of n what) fails ∷ []) ≡ []
+fetch_fills : (n part : ℕ) (what : FoundKind) → is_fetch what ≡ true → (fails : Bool) (place : Option Location) → fills_of (fetch_at (taking_with (entry_of n part what) fails) place) ≡ []
+fetch_fills n part what fetch fails None = refl
+fetch_fills n part what fetch fails (Some Prompt) = refl
+fetch_fills n part what fetch fails (Some (File path)) = by_kind what fetch where
+  by_kind : (what : FoundKind) → is_fetch what ≡ true → fills_of (taking_with (entry_of n part what) fails ∷ []) ≡ []
   by_kind OldKey fetch = refl
   by_kind NewKey fetch = refl
   by_kind Seed fetch = absurd (cc)
@@ -263,19 +266,19 @@ some_at None x P told holds = absurd (cc)
 some_at (Some y) x P told holds = let same : x ≡ y = cc in subst P same holds
 
 -- a fetch gave what its place gives, and left so much of the script
-gave_of : (n : ℕ) (what : FoundKind) (given : Fetched) (place : Option Location) (outer : Option (List (List ℕ × List ℕ))) (old new : ToldScript) (made : List Taking) (entries : List FoundEntry) (files : List (List ℕ × List ℕ)) (script : Script)
-    → outer ≡ Some files → script_told old ≡ Some script → Agrees entries made → Fetches (Ok given) (entry_of n what) place outer old new made
-    → (left : Script) × (script_told new ≡ Some left) × (material_at (taking_at (spot_of n entries) what) files script place ≡ Gives given left) × (made ≡ fetch_at (taking_at (spot_of n entries) what) place)
-gave_of n what given place outer old new made entries files script f s agrees said =
-    let made_agrees : Agrees entries (fetch_at (taking_with (entry_of n what) (is_fault given)) place) = subst (Agrees entries) said.0 agrees in
-    let gives : IsSomeAnd (script_told new) (λ left. material_at (taking_with (entry_of n what) (is_fault given)) files script place ≡ Gives given left) =
-    told_at (script_told old) script (λ here. IsSomeAnd (script_told new) (λ left. material_at (taking_with (entry_of n what) (is_fault given)) files here place ≡ Gives given left)) s
-    (told_at outer files (λ fs. IfSome (script_told old) (λ here. IsSomeAnd (script_told new) (λ left. material_at (taking_with (entry_of n what) (is_fault given)) fs here place ≡ Gives given left))) f said.1) in
-    let found = some_of (script_told new) (λ left. material_at (taking_with (entry_of n what) (is_fault given)) files script place ≡ Gives given left) gives in (
+gave_of : (n part : ℕ) (what : FoundKind) (given : Fetched) (place : Option Location) (outer : Option (List (List ℕ × List ℕ))) (old new : ToldScript) (made : List Taking) (entries : List FoundEntry) (files : List (List ℕ × List ℕ)) (script : Script)
+    → outer ≡ Some files → script_told old ≡ Some script → Agrees entries made → Fetches (Ok given) (entry_of n part what) place outer old new made
+    → (left : Script) × (script_told new ≡ Some left) × (material_at (taking_at (spot_of n part entries) what) files script place ≡ Gives given left) × (made ≡ fetch_at (taking_at (spot_of n part entries) what) place)
+gave_of n part what given place outer old new made entries files script f s agrees said =
+    let made_agrees : Agrees entries (fetch_at (taking_with (entry_of n part what) (is_fault given)) place) = subst (Agrees entries) said.0 agrees in
+    let gives : IsSomeAnd (script_told new) (λ left. material_at (taking_with (entry_of n part what) (is_fault given)) files script place ≡ Gives given left) =
+    told_at (script_told old) script (λ here. IsSomeAnd (script_told new) (λ left. material_at (taking_with (entry_of n part what) (is_fault given)) files here place ≡ Gives given left)) s
+    (told_at outer files (λ fs. IfSome (script_told old) (λ here. IsSomeAnd (script_told new) (λ left. material_at (taking_with (entry_of n part what) (is_fault given)) fs here place ≡ Gives given left))) f said.1) in
+    let found = some_of (script_told new) (λ left. material_at (taking_with (entry_of n part what) (is_fault given)) files script place ≡ Gives given left) gives in (
       found.0,
       found.1,
-      sym (material_agrees n entries what (is_fault given) place files script made_agrees) ∙ found.2,
-      said.0 ∙ fetch_agrees n entries what (is_fault given) place made_agrees,
+      sym (material_agrees n part entries what (is_fault given) place files script made_agrees) ∙ found.2,
+      said.0 ∙ fetch_agrees n part entries what (is_fault given) place made_agrees,
     )
 
 -- a fetch was the first of three takings, and the run is over behind it
@@ -289,12 +292,12 @@ front_of_second first second last xs ys same front = (
 )
 
 -- no fetch is a fill
-fetched_fills : (n : ℕ) (what : FoundKind) → is_fetch what ≡ true → (result : Result Fetched Halt) (place : Option Location) (files : Option (List (List ℕ × List ℕ))) (old new : ToldScript) (made : List Taking) → Fetches result (entry_of n what) place files old new made
+fetched_fills : (n part : ℕ) (what : FoundKind) → is_fetch what ≡ true → (result : Result Fetched Halt) (place : Option Location) (files : Option (List (List ℕ × List ℕ))) (old new : ToldScript) (made : List Taking) → Fetches result (entry_of n part what) place files old new made
     → fills_of made ≡ []
-fetched_fills n what fetch (Ok given) place files old new made said = ap fills_of said.0 ∙ fetch_fills n what fetch (is_fault given) place
-fetched_fills n what fetch (Err (BadLine number at)) place files old new made said = ap fills_of said.0
-fetched_fills n what fetch (Err ReadFault) place files old new made said = ap fills_of said
-fetched_fills n what fetch (Err NoMemory) place files old new made said = none (fetch_at (taking_with (entry_of n what) false) place) said (fetch_fills n what fetch false place) where
+fetched_fills n part what fetch (Ok given) place files old new made said = ap fills_of said.0 ∙ fetch_fills n part what fetch (is_fault given) place
+fetched_fills n part what fetch (Err (BadLine number at)) place files old new made said = ap fills_of said.0
+fetched_fills n part what fetch (Err ReadFault) place files old new made said = ap fills_of said
+fetched_fills n part what fetch (Err NoMemory) place files old new made said = none (fetch_at (taking_with (entry_of n part what) false) place) said (fetch_fills n part what fetch false place) where
   second : {A : Type 0} (xs ys : List A) → xs ++ ys ≡ [] → xs ≡ []
   second [] ys e = refl
   second (x ∷ xs) ys e = absurd (cc)
@@ -331,137 +334,158 @@ front_with_old spot left wants old (Gives new script) made front =
     front_of_first (fetch_at (taking_at spot OldKey) wants.old_place) (fetch_at (taking_at spot NewKey) wants.new_place) (fill_at (seed_at spot left) wants.seed) made front
 
 -- the run is over at the first fetch
-stopped_first : (n : ℕ) (halt : Halt) (wants : Wanted) (entries : List FoundEntry) (outer : Option (List (List ℕ × List ℕ))) (old new : ToldScript) (made : List Taking) (files : List (List ℕ × List ℕ)) (left : List ℕ) (script : Script)
-    → outer ≡ Some files → script_told old ≡ Some script → Agrees entries made → Fetches (Err halt) (entry_of n OldKey) wants.old_place outer old new made
-    → GivesKit (Err halt) (kit_of (spot_of n entries) files left script wants) (script_told new) made
-stopped_first n (BadLine number at) wants entries outer old new made files left script f s agrees said =
-    let stops : material_at (taking_with (entry_of n OldKey) false) files script wants.old_place ≡ Stops number at =
-    told_at (script_told old) script (λ here. material_at (taking_with (entry_of n OldKey) false) files here wants.old_place ≡ Stops number at) s
-    (told_at outer files (λ fs. IfSome (script_told old) (λ here. material_at (taking_with (entry_of n OldKey) false) fs here wants.old_place ≡ Stops number at)) f said.1) in
-    ap (with_old (spot_of n entries) files left wants) (stops_agree n entries OldKey wants.old_place files script number at stops) ∙ ap (λ xs. Lacks number at xs) (sym said.0)
-stopped_first n ReadFault wants entries outer old new made files left script f s agrees said =
-    (subst (λ xs. IsFront xs (supply_takings (kit_of (spot_of n entries) files left script wants))) (sym said) (front_nil _), ap fills_of said)
-stopped_first n NoMemory wants entries outer old new made files left script f s agrees said =
-    let front : IsFront made (fetch_at (taking_at (spot_of n entries) OldKey) wants.old_place) = front_agrees n entries OldKey wants.old_place made agrees said in
-    ⊎_elim (λ none. subst (λ xs. IsFront xs (supply_takings (kit_of (spot_of n entries) files left script wants))) (sym none) (front_nil _))
-    (λ file. subst (λ (g : Given Fetched). IsFront made (supply_takings (with_old (spot_of n entries) files left wants g))) (sym file.2)
-    (front_with_old (spot_of n entries) left wants file.0 (material_at (taking_at (spot_of n entries) NewKey) files file.1 wants.new_place) made front))
-    (nothing_or_file (taking_at (spot_of n entries) OldKey) wants.old_place made files script front)
+stopped_first : (n part : ℕ) (halt : Halt) (wants : Wanted) (entries : List FoundEntry) (outer : Option (List (List ℕ × List ℕ))) (old new : ToldScript) (made : List Taking) (files : List (List ℕ × List ℕ)) (left : List ℕ) (script : Script)
+    → outer ≡ Some files → script_told old ≡ Some script → Agrees entries made → Fetches (Err halt) (entry_of n part OldKey) wants.old_place outer old new made
+    → GivesKit (Err halt) (kit_of (spot_of n part entries) files left script wants) (script_told new) made
+stopped_first n part (BadLine number at) wants entries outer old new made files left script f s agrees said =
+    let stops : material_at (taking_with (entry_of n part OldKey) false) files script wants.old_place ≡ Stops number at =
+    told_at (script_told old) script (λ here. material_at (taking_with (entry_of n part OldKey) false) files here wants.old_place ≡ Stops number at) s
+    (told_at outer files (λ fs. IfSome (script_told old) (λ here. material_at (taking_with (entry_of n part OldKey) false) fs here wants.old_place ≡ Stops number at)) f said.1) in
+    ap (with_old (spot_of n part entries) files left wants) (stops_agree n part entries OldKey wants.old_place files script number at stops) ∙ ap (λ xs. Lacks number at xs) (sym said.0)
+stopped_first n part ReadFault wants entries outer old new made files left script f s agrees said =
+    (subst (λ xs. IsFront xs (supply_takings (kit_of (spot_of n part entries) files left script wants))) (sym said) (front_nil _), ap fills_of said)
+stopped_first n part NoMemory wants entries outer old new made files left script f s agrees said =
+    let front : IsFront made (fetch_at (taking_at (spot_of n part entries) OldKey) wants.old_place) = front_agrees n part entries OldKey wants.old_place made agrees said in
+    ⊎_elim (λ none. subst (λ xs. IsFront xs (supply_takings (kit_of (spot_of n part entries) files left script wants))) (sym none) (front_nil _))
+    (λ file. subst (λ (g : Given Fetched). IsFront made (supply_takings (with_old (spot_of n part entries) files left wants g))) (sym file.2)
+    (front_with_old (spot_of n part entries) left wants file.0 (material_at (taking_at (spot_of n part entries) NewKey) files file.1 wants.new_place) made front))
+    (nothing_or_file (taking_at (spot_of n part entries) OldKey) wants.old_place made files script front)
 
 -- at the second
-stopped_second : (n : ℕ) (halt : Halt) (wants : Wanted) (entries : List FoundEntry) (outer : Option (List (List ℕ × List ℕ))) (old new : ToldScript) (xs ys : List Taking) (files : List (List ℕ × List ℕ)) (left : List ℕ) (script : Script) (given : Fetched)
-    → outer ≡ Some files → script_told old ≡ Some script → xs ≡ fetch_at (taking_at (spot_of n entries) OldKey) wants.old_place → fills_of xs ≡ [] → Agrees entries ys → Fetches (Err halt) (entry_of n NewKey) wants.new_place outer old new ys
-    → GivesKit (Err halt) (with_new (spot_of n entries) left wants given (material_at (taking_at (spot_of n entries) NewKey) files script wants.new_place)) (script_told new) (xs ++ ys)
-stopped_second n (BadLine number at) wants entries outer old new xs ys files left script given f s first empty agrees said =
-    let stops : material_at (taking_with (entry_of n NewKey) false) files script wants.new_place ≡ Stops number at =
-    told_at (script_told old) script (λ here. material_at (taking_with (entry_of n NewKey) false) files here wants.new_place ≡ Stops number at) s
-    (told_at outer files (λ fs. IfSome (script_told old) (λ here. material_at (taking_with (entry_of n NewKey) false) fs here wants.new_place ≡ Stops number at)) f said.1) in
-    ap (with_new (spot_of n entries) left wants given) (stops_agree n entries NewKey wants.new_place files script number at stops)
+stopped_second : (n part : ℕ) (halt : Halt) (wants : Wanted) (entries : List FoundEntry) (outer : Option (List (List ℕ × List ℕ))) (old new : ToldScript) (xs ys : List Taking) (files : List (List ℕ × List ℕ)) (left : List ℕ) (script : Script) (given : Fetched)
+    → outer ≡ Some files → script_told old ≡ Some script → xs ≡ fetch_at (taking_at (spot_of n part entries) OldKey) wants.old_place → fills_of xs ≡ [] → Agrees entries ys → Fetches (Err halt) (entry_of n part NewKey) wants.new_place outer old new ys
+    → GivesKit (Err halt) (with_new (spot_of n part entries) left wants given (material_at (taking_at (spot_of n part entries) NewKey) files script wants.new_place)) (script_told new) (xs ++ ys)
+stopped_second n part (BadLine number at) wants entries outer old new xs ys files left script given f s first empty agrees said =
+    let stops : material_at (taking_with (entry_of n part NewKey) false) files script wants.new_place ≡ Stops number at =
+    told_at (script_told old) script (λ here. material_at (taking_with (entry_of n part NewKey) false) files here wants.new_place ≡ Stops number at) s
+    (told_at outer files (λ fs. IfSome (script_told old) (λ here. material_at (taking_with (entry_of n part NewKey) false) fs here wants.new_place ≡ Stops number at)) f said.1) in
+    ap (with_new (spot_of n part entries) left wants given) (stops_agree n part entries NewKey wants.new_place files script number at stops)
     ∙ ap (λ zs. Lacks number at zs) (sym first ∙ sym (append-nil xs) ∙ ap (λ zs. xs ++ zs) (sym said.0))
-stopped_second n ReadFault wants entries outer old new xs ys files left script given f s first empty agrees said = (
-  front_with_new (spot_of n entries) left wants given (material_at (taking_at (spot_of n entries) NewKey) files script wants.new_place) xs ys first said,
+stopped_second n part ReadFault wants entries outer old new xs ys files left script given f s first empty agrees said = (
+  front_with_new (spot_of n part entries) left wants given (material_at (taking_at (spot_of n part entries) NewKey) files script wants.new_place) xs ys first said,
   outcomes_both is_fill xs ys ∙ ap (λ bs. bs ++ fills_of ys) empty ∙ ap fills_of said,
 )
-stopped_second n NoMemory wants entries outer old new xs ys files left script given f s first empty agrees said =
-    let front : IsFront ys (fetch_at (taking_at (spot_of n entries) NewKey) wants.new_place) = front_agrees n entries NewKey wants.new_place ys agrees said in
-    ⊎_elim (λ none. front_with_new (spot_of n entries) left wants given (material_at (taking_at (spot_of n entries) NewKey) files script wants.new_place) xs ys first none)
-    (λ file. subst (λ (g : Given Fetched). IsFront (xs ++ ys) (supply_takings (with_new (spot_of n entries) left wants given g))) (sym file.2)
-    (front_of_second (fetch_at (taking_at (spot_of n entries) OldKey) wants.old_place) (fetch_at (taking_at (spot_of n entries) NewKey) wants.new_place) (fill_at (seed_at (spot_of n entries) left) wants.seed) xs ys first front))
-    (nothing_or_file (taking_at (spot_of n entries) NewKey) wants.new_place ys files script front)
+stopped_second n part NoMemory wants entries outer old new xs ys files left script given f s first empty agrees said =
+    let front : IsFront ys (fetch_at (taking_at (spot_of n part entries) NewKey) wants.new_place) = front_agrees n part entries NewKey wants.new_place ys agrees said in
+    ⊎_elim (λ none. front_with_new (spot_of n part entries) left wants given (material_at (taking_at (spot_of n part entries) NewKey) files script wants.new_place) xs ys first none)
+    (λ file. subst (λ (g : Given Fetched). IsFront (xs ++ ys) (supply_takings (with_new (spot_of n part entries) left wants given g))) (sym file.2)
+    (front_of_second (fetch_at (taking_at (spot_of n part entries) OldKey) wants.old_place) (fetch_at (taking_at (spot_of n part entries) NewKey) wants.new_place) (fill_at (seed_at (spot_of n part entries) left) wants.seed) xs ys first front))
+    (nothing_or_file (taking_at (spot_of n part entries) NewKey) wants.new_place ys files script front)
 
-pub kit_stopped_first : (n : ℕ) (wants : Wanted) (a b : Outer) (sa sb : ToldScript) (halt : Halt) → Acts n a b (Fetches (Err halt) (entry_of n OldKey) wants.old_place a.files sa sb)
-    → Acts n a b (λ made. (entries : List FoundEntry) → Agrees entries made → TakesKit (Err halt) n wants entries a sa sb made)
-kit_stopped_first n wants a b sa sb halt p = record {
+pub kit_stopped_first : (n part : ℕ) (wants : Wanted) (a b : Outer) (sa sb : ToldScript) (halt : Halt) → Acts n a b (Fetches (Err halt) (entry_of n part OldKey) wants.old_place a.files sa sb)
+    → ActsAs n part a b (λ made. (entries : List FoundEntry) → Agrees entries made → TakesKit (Err halt) n part wants entries a sa sb made)
+kit_stopped_first n part wants a b sa sb halt p = record {
   made = p.made;
   takes = p.takes;
-  said = λ entries agrees.
-      where_each a.files a.entropy (script_told sa) (λ files left script. GivesKit (Err halt) (kit_of (spot_of n entries) files left script wants) (script_told sb) p.made)
-      (λ files left script f e s. stopped_first n halt wants entries a.files sa sb p.made files left script f s agrees p.said);
+  said = (
+    all_of_part n part 0 1 p.made (fetched_within n part OldKey (Err halt) wants.old_place a.files sa sb p.made p.said),
+    λ entries agrees.
+        where_each a.files a.entropy (script_told sa) (λ files left script. GivesKit (Err halt) (kit_of (spot_of n part entries) files left script wants) (script_told sb) p.made)
+        (λ files left script f e s. stopped_first n part halt wants entries a.files sa sb p.made files left script f s agrees p.said),
+  );
 }
 
-pub kit_stopped_second : (n : ℕ) (wants : Wanted) (a b c : Outer) (sa sb sc : ToldScript) (old_key : Fetched) (halt : Halt)
-    → Acts n a b (Fetches (Ok old_key) (entry_of n OldKey) wants.old_place a.files sa sb) → Acts n b c (Fetches (Err halt) (entry_of n NewKey) wants.new_place b.files sb sc)
-    → Acts n a c (λ made. (entries : List FoundEntry) → Agrees entries made → TakesKit (Err halt) n wants entries a sa sc made)
-kit_stopped_second n wants a b c sa sb sc old_key halt p q =
-    let first : AllByRecursion (IsWithin n 0 1) p.made = fetched_within n OldKey (Ok old_key) wants.old_place a.files sa sb p.made p.said in
-    let second : AllByRecursion (IsWithin n 1 2) q.made = fetched_within n NewKey (Err halt) wants.new_place b.files sb sc q.made q.said in
+pub kit_stopped_second : (n part : ℕ) (wants : Wanted) (a b c : Outer) (sa sb sc : ToldScript) (old_key : Fetched) (halt : Halt)
+    → Acts n a b (Fetches (Ok old_key) (entry_of n part OldKey) wants.old_place a.files sa sb) → Acts n b c (Fetches (Err halt) (entry_of n part NewKey) wants.new_place b.files sb sc)
+    → ActsAs n part a c (λ made. (entries : List FoundEntry) → Agrees entries made → TakesKit (Err halt) n part wants entries a sa sc made)
+kit_stopped_second n part wants a b c sa sb sc old_key halt p q =
+    let first : AllByRecursion (IsWithin n part 0 1) p.made = fetched_within n part OldKey (Ok old_key) wants.old_place a.files sa sb p.made p.said in
+    let second : AllByRecursion (IsWithin n part 1 2) q.made = fetched_within n part NewKey (Err halt) wants.new_place b.files sb sc q.made q.said in
     record {
       made = p.made ++ q.made;
-      takes = takes_both (λ line. line ≡ n) p.made q.made a b c (order_within n 0 1 2 p.made q.made first second p.takes.order q.takes.order) p.takes q.takes;
-      said = λ entries agrees.
-          where_each a.files a.entropy (script_told sa) (λ files left script. GivesKit (Err halt) (kit_of (spot_of n entries) files left script wants) (script_told sc) (p.made ++ q.made))
-          (λ files left script f e s.
-          let gave = gave_of n OldKey old_key wants.old_place a.files sa sb p.made entries files script f s (all_first (λ taking. has_entry taking.entry entries ≡ taking.fails) p.made q.made agrees) p.said in
-          subst (λ (g : Given Fetched). GivesKit (Err halt) (with_old (spot_of n entries) files left wants g) (script_told sc) (p.made ++ q.made)) (sym gave.2)
-          (stopped_second n halt wants entries b.files sb sc p.made q.made files left gave.0 old_key (p.takes.files ∙ f) gave.1 gave.3
-          (fetched_fills n OldKey refl (Ok old_key) wants.old_place a.files sa sb p.made p.said) (all_second (λ taking. has_entry taking.entry entries ≡ taking.fails) p.made q.made agrees) q.said));
+      takes = takes_both (λ line. line ≡ n) p.made q.made a b c (order_within n part 0 1 2 p.made q.made first second p.takes.order q.takes.order) p.takes q.takes;
+      said = (
+        all_both (λ taking. taking.entry.part ≡ part) p.made q.made (all_of_part n part 0 1 p.made first) (all_of_part n part 1 2 q.made second),
+        λ entries agrees.
+            where_each a.files a.entropy (script_told sa) (λ files left script. GivesKit (Err halt) (kit_of (spot_of n part entries) files left script wants) (script_told sc) (p.made ++ q.made))
+            (λ files left script f e s.
+            let gave = gave_of n part OldKey old_key wants.old_place a.files sa sb p.made entries files script f s (all_first (λ taking. has_entry taking.entry entries ≡ taking.fails) p.made q.made agrees) p.said in
+            subst (λ (g : Given Fetched). GivesKit (Err halt) (with_old (spot_of n part entries) files left wants g) (script_told sc) (p.made ++ q.made)) (sym gave.2)
+            (stopped_second n part halt wants entries b.files sb sc p.made q.made files left gave.0 old_key (p.takes.files ∙ f) gave.1 gave.3
+            (fetched_fills n part OldKey refl (Ok old_key) wants.old_place a.files sa sb p.made p.said) (all_second (λ taking. has_entry taking.entry entries ≡ taking.fails) p.made q.made agrees) q.said)),
+      );
     }
 
 -- the takings of all three, whatever the last gave
-takes_three : (n : ℕ) (wants : Wanted) (a b c d : Outer) (sa sb sc : ToldScript) (old_key new_key : Fetched) (seed : Result SeedGot AllocError) (xs ys zs : List Taking)
-    → Fetches (Ok old_key) (entry_of n OldKey) wants.old_place a.files sa sb xs → Fetches (Ok new_key) (entry_of n NewKey) wants.new_place b.files sb sc ys → Fills seed (entry_of n Seed) wants.seed c.entropy zs
+takes_three : (n part : ℕ) (wants : Wanted) (a b c d : Outer) (sa sb sc : ToldScript) (old_key new_key : Fetched) (seed : Result SeedGot AllocError) (xs ys zs : List Taking)
+    → Fetches (Ok old_key) (entry_of n part OldKey) wants.old_place a.files sa sb xs → Fetches (Ok new_key) (entry_of n part NewKey) wants.new_place b.files sb sc ys → Fills seed (entry_of n part Seed) wants.seed c.entropy zs
     → Takes (λ line. line ≡ n) xs a b → Takes (λ line. line ≡ n) ys b c → Takes (λ line. line ≡ n) zs c d → Takes (λ line. line ≡ n) ((xs ++ ys) ++ zs) a d
-takes_three n wants a b c d sa sb sc old_key new_key seed xs ys zs p q r takes_x takes_y takes_z =
-    let first : AllByRecursion (IsWithin n 0 1) xs = fetched_within n OldKey (Ok old_key) wants.old_place a.files sa sb xs p in
-    let second : AllByRecursion (IsWithin n 1 2) ys = fetched_within n NewKey (Ok new_key) wants.new_place b.files sb sc ys q in
-    let third : AllByRecursion (IsWithin n 2 3) zs = filled_within n seed wants.seed c.entropy zs r in
-    let both : AllByRecursion (IsWithin n 0 2) (xs ++ ys) = all_both (IsWithin n 0 2) xs ys (within_wider n 0 1 2 xs (omega arith) first) (within_from n 0 1 2 ys (omega arith) second) in
-    let both_order : AreInOrder (entries_made (xs ++ ys)) = order_within n 0 1 2 xs ys first second takes_x.order takes_y.order in
-    takes_both (λ line. line ≡ n) (xs ++ ys) zs a c d (order_within n 0 2 3 (xs ++ ys) zs both third both_order takes_z.order) (takes_both (λ line. line ≡ n) xs ys a b c both_order takes_x takes_y) takes_z
+takes_three n part wants a b c d sa sb sc old_key new_key seed xs ys zs p q r takes_x takes_y takes_z =
+    let first : AllByRecursion (IsWithin n part 0 1) xs = fetched_within n part OldKey (Ok old_key) wants.old_place a.files sa sb xs p in
+    let second : AllByRecursion (IsWithin n part 1 2) ys = fetched_within n part NewKey (Ok new_key) wants.new_place b.files sb sc ys q in
+    let third : AllByRecursion (IsWithin n part 2 3) zs = filled_within n part seed wants.seed c.entropy zs r in
+    let both : AllByRecursion (IsWithin n part 0 2) (xs ++ ys) = all_both (IsWithin n part 0 2) xs ys (within_wider n part 0 1 2 xs (omega arith) first) (within_from n part 0 1 2 ys (omega arith) second) in
+    let both_order : AreInOrder (entries_made (xs ++ ys)) = order_within n part 0 1 2 xs ys first second takes_x.order takes_y.order in
+    takes_both (λ line. line ≡ n) (xs ++ ys) zs a c d (order_within n part 0 2 3 (xs ++ ys) zs both third both_order takes_z.order) (takes_both (λ line. line ≡ n) xs ys a b c both_order takes_x takes_y) takes_z
 
-pub kit_stopped_third : (n : ℕ) (wants : Wanted) (a b c d : Outer) (sa sb sc : ToldScript) (old_key new_key : Fetched) (stop : AllocError)
-    → Acts n a b (Fetches (Ok old_key) (entry_of n OldKey) wants.old_place a.files sa sb) → Acts n b c (Fetches (Ok new_key) (entry_of n NewKey) wants.new_place b.files sb sc)
-    → Acts n c d (Fills (Err stop) (entry_of n Seed) wants.seed c.entropy)
-    → Acts n a d (λ made. (entries : List FoundEntry) → Agrees entries made → TakesKit (Err NoMemory) n wants entries a sa sc made)
-kit_stopped_third n wants a b c d sa sb sc old_key new_key stop p q r = record {
+parts_three : (n part : ℕ) (wants : Wanted) (files : Option (List (List ℕ × List ℕ))) (more_files : Option (List (List ℕ × List ℕ))) (entropy : Option (List ℕ)) (sa sb sc : ToldScript) (old_key new_key : Fetched) (seed : Result SeedGot AllocError) (xs ys zs : List Taking)
+    → Fetches (Ok old_key) (entry_of n part OldKey) wants.old_place files sa sb xs → Fetches (Ok new_key) (entry_of n part NewKey) wants.new_place more_files sb sc ys → Fills seed (entry_of n part Seed) wants.seed entropy zs
+    → AllByRecursion (λ taking. taking.entry.part ≡ part) ((xs ++ ys) ++ zs)
+parts_three n part wants files more_files entropy sa sb sc old_key new_key seed xs ys zs p q r =
+    all_both (λ taking. taking.entry.part ≡ part) (xs ++ ys) zs
+    (all_both (λ taking. taking.entry.part ≡ part) xs ys (all_of_part n part 0 1 xs (fetched_within n part OldKey (Ok old_key) wants.old_place files sa sb xs p))
+    (all_of_part n part 1 2 ys (fetched_within n part NewKey (Ok new_key) wants.new_place more_files sb sc ys q)))
+    (all_of_part n part 2 3 zs (filled_within n part seed wants.seed entropy zs r))
+
+pub kit_stopped_third : (n part : ℕ) (wants : Wanted) (a b c d : Outer) (sa sb sc : ToldScript) (old_key new_key : Fetched) (stop : AllocError)
+    → Acts n a b (Fetches (Ok old_key) (entry_of n part OldKey) wants.old_place a.files sa sb) → Acts n b c (Fetches (Ok new_key) (entry_of n part NewKey) wants.new_place b.files sb sc)
+    → Acts n c d (Fills (Err stop) (entry_of n part Seed) wants.seed c.entropy)
+    → ActsAs n part a d (λ made. (entries : List FoundEntry) → Agrees entries made → TakesKit (Err NoMemory) n part wants entries a sa sc made)
+kit_stopped_third n part wants a b c d sa sb sc old_key new_key stop p q r = record {
   made = (p.made ++ q.made) ++ r.made;
-  takes = takes_three n wants a b c d sa sb sc old_key new_key (Err stop) p.made q.made r.made p.said q.said r.said p.takes q.takes r.takes;
-  said = λ entries agrees.
-      where_each a.files a.entropy (script_told sa) (λ files left script. GivesKit (Err NoMemory) (kit_of (spot_of n entries) files left script wants) (script_told sc) ((p.made ++ q.made) ++ r.made))
-      (λ files left script f e s.
-      let agrees_keys = all_first (λ taking. has_entry taking.entry entries ≡ taking.fails) (p.made ++ q.made) r.made agrees in
-      let old = gave_of n OldKey old_key wants.old_place a.files sa sb p.made entries files script f s (all_first (λ taking. has_entry taking.entry entries ≡ taking.fails) p.made q.made agrees_keys) p.said in
-      let new = gave_of n NewKey new_key wants.new_place b.files sb sc q.made entries files old.0 (p.takes.files ∙ f) old.1 (all_second (λ taking. has_entry taking.entry entries ≡ taking.fails) p.made q.made agrees_keys) q.said in
-      let last : List Taking = fill_at (seed_at (spot_of n entries) left) wants.seed in
-      subst (λ (g : Given Fetched). IsFront ((p.made ++ q.made) ++ r.made) (supply_takings (with_old (spot_of n entries) files left wants g))) (sym old.2)
-      (subst (λ (g : Given Fetched). IsFront ((p.made ++ q.made) ++ r.made) (supply_takings (with_new (spot_of n entries) left wants old_key g))) (sym new.2) (
-        last,
-        ap (λ xs. (xs ++ fetch_at (taking_at (spot_of n entries) NewKey) wants.new_place) ++ last) (sym old.3) ∙ ap (λ xs. (p.made ++ xs) ++ last) (sym new.3)
-            ∙ ap (λ xs. xs ++ last) (sym (append-nil (p.made ++ q.made)) ∙ ap (λ xs. (p.made ++ q.made) ++ xs) (sym r.said)),
-      )));
+  takes = takes_three n part wants a b c d sa sb sc old_key new_key (Err stop) p.made q.made r.made p.said q.said r.said p.takes q.takes r.takes;
+  said = (
+    parts_three n part wants a.files b.files c.entropy sa sb sc old_key new_key (Err stop) p.made q.made r.made p.said q.said r.said,
+    λ entries agrees.
+        where_each a.files a.entropy (script_told sa) (λ files left script. GivesKit (Err NoMemory) (kit_of (spot_of n part entries) files left script wants) (script_told sc) ((p.made ++ q.made) ++ r.made))
+        (λ files left script f e s.
+        let agrees_keys = all_first (λ taking. has_entry taking.entry entries ≡ taking.fails) (p.made ++ q.made) r.made agrees in
+        let old = gave_of n part OldKey old_key wants.old_place a.files sa sb p.made entries files script f s (all_first (λ taking. has_entry taking.entry entries ≡ taking.fails) p.made q.made agrees_keys) p.said in
+        let new = gave_of n part NewKey new_key wants.new_place b.files sb sc q.made entries files old.0 (p.takes.files ∙ f) old.1 (all_second (λ taking. has_entry taking.entry entries ≡ taking.fails) p.made q.made agrees_keys) q.said in
+        let last : List Taking = fill_at (seed_at (spot_of n part entries) left) wants.seed in
+        subst (λ (g : Given Fetched). IsFront ((p.made ++ q.made) ++ r.made) (supply_takings (with_old (spot_of n part entries) files left wants g))) (sym old.2)
+        (subst (λ (g : Given Fetched). IsFront ((p.made ++ q.made) ++ r.made) (supply_takings (with_new (spot_of n part entries) left wants old_key g))) (sym new.2) (
+          last,
+          ap (λ xs. (xs ++ fetch_at (taking_at (spot_of n part entries) NewKey) wants.new_place) ++ last) (sym old.3) ∙ ap (λ xs. (p.made ++ xs) ++ last) (sym new.3)
+              ∙ ap (λ xs. xs ++ last) (sym (append-nil (p.made ++ q.made)) ∙ ap (λ xs. (p.made ++ q.made) ++ xs) (sym r.said)),
+        ))),
+  );
 }
 
 -- all three were made
-pub kit_taken : (n : ℕ) (wants : Wanted) (a b c d : Outer) (sa sb sc : ToldScript) (old_key new_key : Fetched) (seed : SeedGot)
-    → Acts n a b (Fetches (Ok old_key) (entry_of n OldKey) wants.old_place a.files sa sb) → Acts n b c (Fetches (Ok new_key) (entry_of n NewKey) wants.new_place b.files sb sc)
-    → Acts n c d (Fills (Ok seed) (entry_of n Seed) wants.seed c.entropy)
-    → Acts n a d (λ made. (entries : List FoundEntry) → Agrees entries made → TakesKit (Ok record { old_key = old_key; new_key = new_key; seed = seed }) n wants entries a sa sc made)
-kit_taken n wants a b c d sa sb sc old_key new_key seed p q r =
+pub kit_taken : (n part : ℕ) (wants : Wanted) (a b c d : Outer) (sa sb sc : ToldScript) (old_key new_key : Fetched) (seed : SeedGot)
+    → Acts n a b (Fetches (Ok old_key) (entry_of n part OldKey) wants.old_place a.files sa sb) → Acts n b c (Fetches (Ok new_key) (entry_of n part NewKey) wants.new_place b.files sb sc)
+    → Acts n c d (Fills (Ok seed) (entry_of n part Seed) wants.seed c.entropy)
+    → ActsAs n part a d (λ made. (entries : List FoundEntry) → Agrees entries made → TakesKit (Ok record { old_key = old_key; new_key = new_key; seed = seed }) n part wants entries a sa sc made)
+kit_taken n part wants a b c d sa sb sc old_key new_key seed p q r =
     let here : ℕ → Type 0 = λ line. line ≡ n in
     record {
       made = (p.made ++ q.made) ++ r.made;
-      takes = takes_three n wants a b c d sa sb sc old_key new_key (Ok seed) p.made q.made r.made p.said q.said r.said p.takes q.takes r.takes;
-      said = λ entries agrees.
-          where_each a.files a.entropy (script_told sa)
-          (λ files left script. GivesKit (Ok record { old_key = old_key; new_key = new_key; seed = seed }) (kit_of (spot_of n entries) files left script wants) (script_told sc) ((p.made ++ q.made) ++ r.made))
-          (λ files left script f e s.
-          let agrees_keys = all_first (λ taking. has_entry taking.entry entries ≡ taking.fails) (p.made ++ q.made) r.made agrees in
-          let old = gave_of n OldKey old_key wants.old_place a.files sa sb p.made entries files script f s (all_first (λ taking. has_entry taking.entry entries ≡ taking.fails) p.made q.made agrees_keys) p.said in
-          let new = gave_of n NewKey new_key wants.new_place b.files sb sc q.made entries files old.0 (p.takes.files ∙ f) old.1 (all_second (λ taking. has_entry taking.entry entries ≡ taking.fails) p.made q.made agrees_keys) q.said in
-          let agrees_seed : Agrees entries (fill_at (taking_with (entry_of n Seed) (is_seed_fault seed)) wants.seed) =
-          subst (Agrees entries) r.said.0 (all_second (λ taking. has_entry taking.entry entries ≡ taking.fails) (p.made ++ q.made) r.made agrees) in
-          let left_b : b.entropy ≡ Some left = same_entropy a b here p.made left p.takes (fetched_fills n OldKey refl (Ok old_key) wants.old_place a.files sa sb p.made p.said) e in
-          let left_c : c.entropy ≡ Some left = same_entropy b c here q.made left q.takes (fetched_fills n NewKey refl (Ok new_key) wants.new_place b.files sb sc q.made q.said) left_b in
-          let seed_told = told_at c.entropy left
-          (λ l. (seed ≡ seed_from (taking_with (entry_of n Seed) (is_seed_fault seed)) l wants.seed) × (wants.seed ≡ true → is_seed_fault seed || is_short l ≡ is_seed_fault seed)) left_c r.said.1 in
-          let filled = fill_agrees n entries left (is_seed_fault seed) wants.seed seed_told.1 agrees_seed in
-          let seed_is : seed ≡ seed_from (seed_at (spot_of n entries) left) left wants.seed = seed_told.0 ∙ filled.1 in
-          let made_seed : r.made ≡ fill_at (seed_at (spot_of n entries) left) wants.seed = r.said.0 ∙ filled.0 in
-          some_at (script_told sc) new.0 (λ later. kit_of (spot_of n entries) files left script wants ≡ Has (record { old_key = old_key; new_key = new_key; seed = seed }) later ((p.made ++ q.made) ++ r.made)) new.1
-          (ap (with_old (spot_of n entries) files left wants) old.2 ∙ ap (with_new (spot_of n entries) left wants old_key) new.2
-          ∙ same_supply old_key new_key seed (seed_from (seed_at (spot_of n entries) left) left wants.seed) new.0 (takings_of (spot_of n entries) left wants) ((p.made ++ q.made) ++ r.made) seed_is
-          (ap (λ xs. (xs ++ q.made) ++ r.made) old.3 ∙ ap (λ xs. (fetch_at (taking_at (spot_of n entries) OldKey) wants.old_place ++ xs) ++ r.made) new.3
-          ∙ ap (λ xs. (fetch_at (taking_at (spot_of n entries) OldKey) wants.old_place ++ fetch_at (taking_at (spot_of n entries) NewKey) wants.new_place) ++ xs) made_seed)));
+      takes = takes_three n part wants a b c d sa sb sc old_key new_key (Ok seed) p.made q.made r.made p.said q.said r.said p.takes q.takes r.takes;
+      said = (
+        parts_three n part wants a.files b.files c.entropy sa sb sc old_key new_key (Ok seed) p.made q.made r.made p.said q.said r.said,
+        λ entries agrees.
+            where_each a.files a.entropy (script_told sa)
+            (λ files left script. GivesKit (Ok record { old_key = old_key; new_key = new_key; seed = seed }) (kit_of (spot_of n part entries) files left script wants) (script_told sc) ((p.made ++ q.made) ++ r.made))
+            (λ files left script f e s.
+            let agrees_keys = all_first (λ taking. has_entry taking.entry entries ≡ taking.fails) (p.made ++ q.made) r.made agrees in
+            let old = gave_of n part OldKey old_key wants.old_place a.files sa sb p.made entries files script f s (all_first (λ taking. has_entry taking.entry entries ≡ taking.fails) p.made q.made agrees_keys) p.said in
+            let new = gave_of n part NewKey new_key wants.new_place b.files sb sc q.made entries files old.0 (p.takes.files ∙ f) old.1 (all_second (λ taking. has_entry taking.entry entries ≡ taking.fails) p.made q.made agrees_keys) q.said in
+            let agrees_seed : Agrees entries (fill_at (taking_with (entry_of n part Seed) (is_seed_fault seed)) wants.seed) =
+            subst (Agrees entries) r.said.0 (all_second (λ taking. has_entry taking.entry entries ≡ taking.fails) (p.made ++ q.made) r.made agrees) in
+            let left_b : b.entropy ≡ Some left = same_entropy a b here p.made left p.takes (fetched_fills n part OldKey refl (Ok old_key) wants.old_place a.files sa sb p.made p.said) e in
+            let left_c : c.entropy ≡ Some left = same_entropy b c here q.made left q.takes (fetched_fills n part NewKey refl (Ok new_key) wants.new_place b.files sb sc q.made q.said) left_b in
+            let seed_told = told_at c.entropy left
+            (λ l. (seed ≡ seed_from (taking_with (entry_of n part Seed) (is_seed_fault seed)) l wants.seed) × (wants.seed ≡ true → is_seed_fault seed || is_short l ≡ is_seed_fault seed)) left_c r.said.1 in
+            let filled = fill_agrees n part entries left (is_seed_fault seed) wants.seed seed_told.1 agrees_seed in
+            let seed_is : seed ≡ seed_from (seed_at (spot_of n part entries) left) left wants.seed = seed_told.0 ∙ filled.1 in
+            let made_seed : r.made ≡ fill_at (seed_at (spot_of n part entries) left) wants.seed = r.said.0 ∙ filled.0 in
+            some_at (script_told sc) new.0 (λ later. kit_of (spot_of n part entries) files left script wants ≡ Has (record { old_key = old_key; new_key = new_key; seed = seed }) later ((p.made ++ q.made) ++ r.made)) new.1
+            (ap (with_old (spot_of n part entries) files left wants) old.2 ∙ ap (with_new (spot_of n part entries) left wants old_key) new.2
+            ∙ same_supply old_key new_key seed (seed_from (seed_at (spot_of n part entries) left) left wants.seed) new.0 (takings_of (spot_of n part entries) left wants) ((p.made ++ q.made) ++ r.made) seed_is
+            (ap (λ xs. (xs ++ q.made) ++ r.made) old.3 ∙ ap (λ xs. (fetch_at (taking_at (spot_of n part entries) OldKey) wants.old_place ++ xs) ++ r.made) new.3
+            ∙ ap (λ xs. (fetch_at (taking_at (spot_of n part entries) OldKey) wants.old_place ++ fetch_at (taking_at (spot_of n part entries) NewKey) wants.new_place) ++ xs) made_seed))),
+      );
     } where
       same_supply : (old_key new_key : Fetched) (seed z : SeedGot) (later : Script) (whole made : List Taking) → seed ≡ z → made ≡ whole
           → (let supply : Supply = Has (record { old_key = old_key; new_key = new_key; seed = z }) later whole in supply) ≡ Has (record { old_key = old_key; new_key = new_key; seed = seed }) later made

@@ -3,6 +3,9 @@ pub mod WritingLemmas
 pub mod TakingLemmas
 pub mod KitLemmas
 pub mod CommandLemmas
+pub mod ChangeLemmas
 pub mod FaultLemmas
+pub mod TaskLemmas
+pub mod PerformLemmas
 pub mod RunLemmas
 pub mod EndingLemmas

@@ -12,14 +12,11 @@ use Rattle.edge_io.specs.declared.errors.Failed.{Failed}
 use Rattle.encryption_roots.specs.declared.props.Location.{Location}
 use Rattle.encryption_roots.specs.declared.props.Location.TheVariants.{Prompt, File}
 use Rattle.encryption_roots.specs.declared.command.KeyCmd.{KeyCmd}
-use Rattle.encryption_roots.specs.declared.command.KeyCmd.TheVariants as commands
-use Rattle.dataset_tree.specs.SetName.{named}
 use Rattle.encryption_roots.specs.declared.kit.Fetched.{Fetched}
 use Rattle.dataset_tree.specs.declared.refusal.Refusal.{Refusal}
 use Rattle.key_machine.specs.Step.{refusal_of, wanted}
 use Rattle.key_machine.specs.Told.{Wanted}
 use Rattle.shell_lines.specs.declared.line.Line.{Line}
-use Rattle.shell_lines.specs.declared.line.Line.TheVariants.{Silent, Create, LoadKey, UnloadKey, Get, List as ListSets}
 use Rattle.shell_lines.specs.Grammar.{line_of}
 use Rattle.shell_run.specs.declared.ending.Ending.{Ending}
 use Rattle.shell_run.specs.declared.ending.Ending.TheVariants.{Done, Usage, BadLine, ReadFault, WriteFault, NoMemory}
@@ -27,15 +24,17 @@ use Rattle.shell_run.specs.declared.ending.Halt.{Halt}
 use Rattle.shell_run.specs.declared.ending.Halt.TheVariants as halts
 use Rattle.shell_run.specs.declared.found.FoundEntry.{FoundEntry}
 use Rattle.shell_run.specs.declared.found.FoundKind.TheVariants.{OldKey, NewKey}
-use Rattle.shell_run.specs.Answers.{Acts, Agrees, HaltsIn, HasAnswer, WhereTold, answer_takings, spot_of}
+use Rattle.shell_run.specs.Answers.{Acts, HaltsIn, HasAnswer, WhereTold, answer_takings, spot_of}
 use Rattle.shell_run.specs.Endings.{ending_of, status_of}
 use Rattle.shell_run.specs.Outer.{Outer}
 use Rattle.shell_run.specs.Progress.{Goes as GoesOn, Taken, Ends as EndsSo, TookCut, GoesPast, NoLine, IsNextLine, NoneTaken, HasReplied, HasCut, Replied, LineRan, RunsFrom, StartsNot}
 use Rattle.shell_run.specs.Ran.{IsAnswered, IsFront, IsCut, Came, WroteLast}
-use Rattle.shell_run.specs.Script.{Script, ToldScript, Given, Gives, Stops, prompted, prompted_by, prompted_before, past_line, script_of, script_told, within_limits}
+use Rattle.shell_run.specs.Script.{Script, ToldScript, Given, Gives, Stops, prompted, prompted_by, prompted_before, past_line, script_of, script_told}
 use Rattle.shell_run.specs.Takings.{Taking, has_entry, entries_of, fills_of}
 use Rattle.shell_run.specs.Texts.{bad_line}
-use Rattle.shell_run.specs.Transcript.{World, world_of, told_world, Spot, taking_at, at_prompt, material_at, Supply, Has, Lacks, with_new, with_old, kit_of, Outcome, Does, Halts, supplied, unless_refused, commanded, command_named, commanded_if, key_answer, Run, Turn, Answer, Goes, Ends, answered, preceded, replies_of, made_in, goes_on, checked, answer_of, answer_if, run_over, run_before, run_within, run_from, transcript}
+use Rattle.shell_run.specs.declared.task.Report.{Report}
+use Rattle.shell_run.specs.Tasks.{Asked, asked_of}
+use Rattle.shell_run.specs.Transcript.{World, world_of, told_world, Spot, taking_at, at_prompt, material_at, Supply, Has, Lacks, with_new, with_old, kit_of, Commanded, Outcome, Does, Halts, supplied, unless_refused, commanded, Run, Turn, Answer, Goes, Ends, Performed, begun, with_done, unless_halted, performed, preceded, replies_of, made_in, goes_on, checked, answer_of, answer_if, run_over, run_before, run_within, run_from, transcript}
 use Rattle.shell_run.proofs.CommandLemmas.{acts_told, front_nil, told_each, told_of}
 use Rattle.shell_run.proofs.KitLemmas.{told_at}
 use Rattle.shell_run.proofs.ScriptLemmas.{limit_bad, limit_within}
@@ -275,25 +274,27 @@ commanded_within spot w command None =
     (old_within (length w.script.ahead) spot w.files w.entropy (wanted w.present.keys command) (material_at (taking_at spot OldKey) w.files w.script (wanted w.present.keys command).old_place)
     (material_within (taking_at spot OldKey) w.files w.script (wanted w.present.keys command).old_place))
 
-commanded_if_within : (spot : Spot) (w : World) (given : Result KeyCmd Refusal) → OutcomeWithin (length w.script.ahead) (commanded_if spot w given)
-commanded_if_within spot w (Ok command) = commanded_within spot w command (refusal_of w.present.keys command)
-commanded_if_within spot w (Err why) = omega arith
+outcome_below : (k m : ℕ) (outcome : Outcome) → m ≤ k → OutcomeWithin m outcome → OutcomeWithin k outcome
+outcome_below k m (Does done) below within = omega (arith, below, within)
+outcome_below k m (Halts number at w takings) below within = tt
 
-answered_within : (n k : ℕ) (outcome : Outcome) → OutcomeWithin k outcome → AnswerWithin k (answered n outcome)
-answered_within n k (Does done) within = within
-answered_within n k (Halts number at w takings) within = tt
+unless_halted_within : (k : ℕ) (before : Performed) (outcome : Outcome) (rest : Commanded → Answer) → OutcomeWithin k outcome → ((done : Commanded) → length done.world.script.ahead ≤ k → AnswerWithin k (rest done))
+    → AnswerWithin k (unless_halted before outcome rest)
+unless_halted_within k before (Does done) rest within later = later done within
+unless_halted_within k before (Halts number at w takings) rest within later = tt
 
-key_within : (n : ℕ) (entries : List FoundEntry) (w : World) (command : List ℕ → KeyCmd) (word : List ℕ) → AnswerWithin (length w.script.ahead) (key_answer n entries w command word)
-key_within n entries w command word =
-    answered_within n (length w.script.ahead) (commanded_if (spot_of n entries) w (command_named command (named word))) (commanded_if_within (spot_of n entries) w (command_named command (named word)))
+performed_within : (n k : ℕ) (entries : List FoundEntry) (report : Report) (before : Performed) (commands : List KeyCmd) → length before.turn.world.script.ahead ≤ k → AnswerWithin k (performed n entries report before commands)
+performed_within n k entries report before [] within = within
+performed_within n k entries report before (command ∷ later) within =
+    unless_halted_within k before (commanded (spot_of n before.tried entries) before.turn.world command) (λ done. performed n entries report (with_done n report command before done) later)
+    (outcome_below k (length before.turn.world.script.ahead) (commanded (spot_of n before.tried entries) before.turn.world command) within
+    (commanded_within (spot_of n before.tried entries) before.turn.world command (refusal_of before.turn.world.present.keys command)))
+    (λ done fits. performed_within n k entries report (with_done n report command before done) later fits)
 
 line_within : (n : ℕ) (entries : List FoundEntry) (w : World) (line : Line) → AnswerWithin (length w.script.ahead) (answer_of n entries w line)
-line_within n entries w Silent = omega arith
-line_within n entries w ListSets = omega arith
-line_within n entries w (Create word opts) = key_within n entries w (λ name. commands.Create name opts) word
-line_within n entries w (LoadKey word check_only place) = key_within n entries w (λ name. commands.Load name check_only place) word
-line_within n entries w (UnloadKey word) = key_within n entries w (λ name. commands.Unload name) word
-line_within n entries w (Get prop word) = key_within n entries w (λ name. commands.Get name prop) word
+line_within n entries w line =
+    let asked : Asked = asked_of w.present.keys line in
+    performed_within n (length w.script.ahead) entries asked.report (begun w) asked.commands (omega arith)
 
 answer_within : (n : ℕ) (entries : List FoundEntry) (w : World) (outcome : Result Line ℕ) → AnswerWithin (length w.script.ahead) (answer_if n entries w outcome)
 answer_within n entries w (Ok line) = line_within n entries w line

@@ -1,11 +1,11 @@
 -- The next line of a script, by the bytes that a reader has before it.
-use Rattle.std.proofs.Common.{◌≡◌, ℕ, ◌+◌, ◌-◌, ◌<◌, ◌≤◌, Bool, true, false, nat_lt, List, [], ◌∷◌, ◌++◌, length, drop, Option, Some, None, IfSome, IsSomeAnd, if◌then◌else◌, refl, ap, sym, ◌∙◌, subst, arith, length-drop}
+use Rattle.std.proofs.Common.{◌≡◌, ℕ, ◌+◌, ◌<◌, ◌≤◌, Bool, true, false, nat_lt, List, [], ◌∷◌, ◌++◌, length, drop, Option, Some, None, IfSome, IsSomeAnd, if◌then◌else◌, refl, ap, sym, ◌∙◌, subst, arith, length-drop}
 use Rattle.std.specs.Option.{option_map}
 use Rattle.std.proofs.lemmas.Bool.Decides.{nat_tests}
 use Rattle.edge_io.specs.Lines.{lines, first_line, is_prompt, next_line, next_prompt, prompt_of, rest_of, rest_of_prompt}
 use Rattle.edge_io.specs.Told.{unread}
 use Rattle.edge_io.proofs.LinesLemmas.{lines_next}
-use Rattle.shell_run.specs.Script.{Script, ToldScript, Given, Gives, Stops, past_line, prompted, prompted_by, prompted_before, script_of, script_told, within_limits}
+use Rattle.shell_run.specs.Script.{Script, Given, Gives, Stops, prompted, prompted_by, script_of, script_told, within_limits}
 
 -- ---- the next line
 

@@ -1,5 +1,6 @@
 -- What the calls that carry out a line say of their answers.
-use Rattle.std.specs.Prelude.{◌≡◌, ℕ, ◌≤◌, Bool, true, false, ◌||◌, is_some, take, drop, List, ◌++◌, [], IfSome, IsSomeAnd, Result, Ok, Err}
+use Rattle.std.specs.Prelude.{◌≡◌, ℕ, ◌≤◌, Bool, true, false, ◌||◌, is_some, length, take, drop, List, ◌++◌, [], IfSome, IsSomeAnd, Result, Ok, Err, if◌then◌else◌}
+use lib.Chars.{codes}
 use Rattle.std.specs.declared.alloc.AllocError.{AllocError}
 use Rattle.std.specs.declared.option.Option.{Option}
 use Rattle.std.specs.declared.option.Option.TheVariants.{Some, None}
@@ -32,12 +33,17 @@ use Rattle.shell_run.specs.declared.command.Shown.TheVariants as shows
 use Rattle.shell_run.specs.declared.ending.Halt.{Halt}
 use Rattle.shell_run.specs.declared.ending.Halt.TheVariants.{BadLine, ReadFault, NoMemory}
 use Rattle.shell_run.specs.declared.found.FoundEntry.{FoundEntry}
+use Rattle.shell_run.specs.declared.task.Report.{Report}
+use Rattle.shell_run.specs.declared.task.Report.TheVariants as reports
+use Rattle.shell_run.specs.declared.task.Task.{Task}
 use Rattle.shell_run.specs.Outer.{Calls, Outer, Takes}
 use Rattle.shell_run.specs.Ran.{IsFront}
-use Rattle.shell_run.specs.Script.{Script, ToldScript, Given, Gives, Stops, prompted, script_told}
+use Rattle.shell_run.specs.Reports.{is_refusal, name_in, reported}
+use Rattle.shell_run.specs.Tasks.{Asked, no_command}
+use Rattle.shell_run.specs.Script.{Script, ToldScript, Gives, Stops, prompted, script_told}
 use Rattle.shell_run.specs.Takings.{Taking, has_entry, fills_of}
-use Rattle.shell_run.specs.Texts.{ok_line, text_line, error_line}
-use Rattle.shell_run.specs.Transcript.{World, Spot, fetch_at, material_at, fill_at, seed_from, Supply, Has, Lacks, kit_of, Commanded, Outcome, Does, Halts, commanded, refused_at_once, Turn, Answer, Goes, Ends, answered}
+use Rattle.shell_run.specs.Texts.{ok_line, text_line, error_line, error_text, key_line}
+use Rattle.shell_run.specs.Transcript.{World, Spot, fetch_at, material_at, fill_at, seed_from, Supply, Has, Lacks, kit_of, Outcome, Does, Halts, Answer, Goes, Ends}
 
 -- ---- the script
 
@@ -74,6 +80,10 @@ pub record Acts (n : ℕ) (old new : Outer) (Said : List Taking → Type 0) : Ty
   pub made : List Taking
   pub takes : Takes (λ line. line ≡ n) made old new
   pub said : Said made
+
+-- the command of this part of line n has made takings
+abbrev pub ActsAs : (n part : ℕ) → (old new : Outer) → (Said : List Taking → Type 0) → Type 0
+ActsAs n part old new Said = Acts n old new (λ made. AllByRecursion (λ taking. taking.entry.part ≡ part) made × Said made)
 
 -- What is said where the world is told, and of each list that agrees with what was taken.
 abbrev pub WhereTold : Option World → List Taking → (List FoundEntry → World → Type 0) → Type 0
@@ -138,9 +148,8 @@ FillsFrom left now seeds.Fault = now ≡ Some left
 abbrev pub wants_of : Needs → Wanted
 wants_of needs = record { old_place = needs.old_place; new_place = needs.new_place; seed = needs.seed }
 
--- the part of line n that takes for its one command
-abbrev pub spot_of : ℕ → List FoundEntry → Spot
-spot_of n entries = record { line = n; part = 0; entries = entries }
+abbrev pub spot_of : (n part : ℕ) → List FoundEntry → Spot
+spot_of n part entries = record { line = n; part = part; entries = entries }
 
 abbrev pub supply_takings : Supply → List Taking
 supply_takings (Has kit left takings) = takings
@@ -153,10 +162,10 @@ GivesKit (Err (BadLine number at)) supply new made = supply ≡ Lacks number at 
 GivesKit (Err ReadFault) supply new made = IsFront made (supply_takings supply) × (fills_of made ≡ [])
 GivesKit (Err NoMemory) supply new made = IsFront made (supply_takings supply)
 
-abbrev pub TakesKit : Result LineKit Halt → ℕ → Wanted → List FoundEntry → Outer → (old new : ToldScript) → List Taking → Type 0
-TakesKit result n wants entries outer old new made =
+abbrev pub TakesKit : Result LineKit Halt → (n part : ℕ) → Wanted → List FoundEntry → Outer → (old new : ToldScript) → List Taking → Type 0
+TakesKit result n part wants entries outer old new made =
     IfSome outer.files (λ files. IfSome outer.entropy (λ left. IfSome (script_told old) (λ script.
-    GivesKit result (kit_of (spot_of n entries) files left script wants) (script_told new) made)))
+    GivesKit result (kit_of (spot_of n part entries) files left script wants) (script_told new) made)))
 
 -- a kit has what is wanted
 pub record HasWanted (needs : Needs) (kit : LineKit) : Type 0 where
@@ -166,13 +175,13 @@ pub record HasWanted (needs : Needs) (kit : LineKit) : Type 0 where
 
 -- ---- a command
 
--- A command that a line of the language may give: the record size of a create, where it has one, is in form, and no line changes a key yet.
+-- A command that a line of the language may give: the record size of a create, where it has one, is in form.
 abbrev pub IsOfLine : KeyCmd → Type 0
 IsOfLine (commands.Create name opts) = IfSome opts.block IsRecordSize
 IsOfLine (commands.Load name check_only place) = Unit {0}
 IsOfLine (commands.Unload name) = Unit {0}
-IsOfLine (commands.Change name opts load_first) = ⊥
-IsOfLine (commands.Inherit name load_first) = ⊥
+IsOfLine (commands.Change name opts load_first) = Unit {0}
+IsOfLine (commands.Inherit name load_first) = Unit {0}
 IsOfLine (commands.Mount name) = ⊥
 IsOfLine (commands.Unmount name) = ⊥
 IsOfLine (commands.Get name prop) = Unit {0}
@@ -180,9 +189,24 @@ IsOfLine (commands.Clone from name) = ⊥
 IsOfLine (commands.Receive name props wrapped block) = ⊥
 IsOfLine (commands.Destroy name snaps) = ⊥
 
-abbrev pub AreOfLine : Result KeyCmd Stop → Type 0
-AreOfLine (Ok command) = IsOfLine command
-AreOfLine (Err stop) = Unit {0}
+-- a command that takes no seed
+abbrev pub IsSeedless : KeyCmd → Type 0
+IsSeedless (commands.Create name opts) = ⊥
+IsSeedless (commands.Load name check_only place) = Unit {0}
+IsSeedless (commands.Unload name) = Unit {0}
+IsSeedless (commands.Change name opts load_first) = ⊥
+IsSeedless (commands.Inherit name load_first) = ⊥
+IsSeedless (commands.Mount name) = ⊥
+IsSeedless (commands.Unmount name) = ⊥
+IsSeedless (commands.Get name prop) = Unit {0}
+IsSeedless (commands.Clone from name) = ⊥
+IsSeedless (commands.Receive name props wrapped block) = ⊥
+IsSeedless (commands.Destroy name snaps) = ⊥
+
+-- Commands of one line: of several none takes a seed.
+pub record AreOfLine (commands : List KeyCmd) : Type 0 where
+  pub each : AllByRecursion IsOfLine commands
+  pub seedless : 2 ≤ length commands → AllByRecursion IsSeedless commands
 
 abbrev pub IsDone : Reply → Type 0
 IsDone Done = Unit {0}
@@ -205,10 +229,21 @@ settled (Ok shown) = Ok (Ok shown)
 settled (Err (stops.Refused why)) = Ok (Err why)
 settled (Err stops.NoMemory) = Err NoMemory
 
--- the takings of an answer, whichever it is
+-- the takings of an outcome and of an answer, whichever it is
+abbrev pub outcome_takings : Outcome → List Taking
+outcome_takings (Does done) = done.takings
+outcome_takings (Halts number at w takings) = takings
+
 abbrev pub answer_takings : Answer → List Taking
 answer_takings (Goes turn) = turn.takings
 answer_takings (Ends number at w takings) = takings
+
+-- The run is over in the midst of a command that has this outcome. A fault of the script comes before the command's seed.
+abbrev pub HaltsAt : Halt → Outcome → List Taking → Type 0
+HaltsAt (BadLine number at) (Does done) made = ⊥
+HaltsAt (BadLine number at) (Halts m place w takings) made = (m ≡ number) × (place ≡ at) × (made ≡ takings)
+HaltsAt ReadFault outcome made = IsFront made (outcome_takings outcome) × (fills_of made ≡ [])
+HaltsAt NoMemory outcome made = IsFront made (outcome_takings outcome)
 
 -- The run is over in the midst of a line that has this answer. A fault of the script comes before the line's seed.
 abbrev pub HaltsIn : Halt → Answer → List Taking → Type 0
@@ -217,13 +252,24 @@ HaltsIn (BadLine number at) (Ends m place w takings) made = (m ≡ number) × (p
 HaltsIn ReadFault answer made = IsFront made (answer_takings answer) × (fills_of made ≡ [])
 HaltsIn NoMemory answer made = IsFront made (answer_takings answer)
 
--- a command of line n was carried out as it is defined, or the run is over in the midst of it
-abbrev pub Executes : Result (Result Shown Why) Halt → ℕ → Outcome → Option World → List Taking → Type 0
-Executes (Ok (Ok shown)) n (Does done) new made = Replies (Ok shown) done.reply × (new ≡ Some done.world) × (made ≡ done.takings)
-Executes (Ok (Err why)) n (Does done) new made = (done.reply ≡ Refused why) × (new ≡ Some done.world) × (made ≡ done.takings)
-Executes (Ok (Ok shown)) n (Halts number at w takings) new made = ⊥
-Executes (Ok (Err why)) n (Halts number at w takings) new made = ⊥
-Executes (Err halt) n outcome new made = HaltsIn halt (answered n outcome) made
+-- a command was carried out as it is defined, or the run is over in the midst of it
+abbrev pub Executes : Result (Result Shown Why) Halt → Outcome → Option World → List Taking → Type 0
+Executes (Ok (Ok shown)) (Does done) new made = Replies (Ok shown) done.reply × (new ≡ Some done.world) × (made ≡ done.takings)
+Executes (Ok (Err why)) (Does done) new made = (done.reply ≡ Refused why) × (new ≡ Some done.world) × (made ≡ done.takings)
+Executes (Ok (Ok shown)) (Halts number at w takings) new made = ⊥
+Executes (Ok (Err why)) (Halts number at w takings) new made = ⊥
+Executes (Err halt) outcome new made = HaltsAt halt outcome made
+
+-- how many commands went well, of one that has this reply
+abbrev pub well_of : Reply → ℕ
+well_of reply = if is_refusal reply then 0 else 1
+
+-- a command of line n was carried out, its report added, and it counted, or the run is over in the midst of it
+abbrev pub PerformsOne : Result ℕ Halt → ℕ → Report → KeyCmd → Outcome → Option World → (before after : List ℕ) → List Taking → Type 0
+PerformsOne (Ok count) n report command (Does done) new before after made =
+    (new ≡ Some done.world) × (after ≡ before ++ reported n done.world.present.keys report command done.reply) × (made ≡ done.takings) × (count ≡ well_of done.reply)
+PerformsOne (Ok count) n report command (Halts number at w takings) new before after made = ⊥
+PerformsOne (Err halt) n report command outcome new before after made = HaltsAt halt outcome made
 
 -- ---- a line
 
@@ -233,22 +279,44 @@ HasAnswer (Ok done) (Goes turn) new before after made = (new ≡ Some turn.world
 HasAnswer (Ok done) (Ends number at w takings) new before after made = ⊥
 HasAnswer (Err halt) answer new before after made = HaltsIn halt answer made
 
--- a command, or the refusal in place of one, was answered as line n
-abbrev pub Commands : Result (Unit {0}) Halt → ℕ → Result KeyCmd Stop → List FoundEntry → World → Option World → (before after : List ℕ) → List Taking → Type 0
-Commands result n (Ok command) entries w new before after made = HasAnswer result (answered n (commanded (spot_of n entries) w command)) new before after made
-Commands result n (Err (stops.Refused why)) entries w new before after made = HasAnswer result (answered n (refused_at_once w why)) new before after made
-Commands result n (Err stops.NoMemory) entries w new before after made = (made ≡ []) × (result ≡ Err NoMemory)
-
 -- what is printed of a result
 abbrev pub shown_output : ℕ → List Row → Result Shown Why → List ℕ
 shown_output n rows (Ok shows.Done) = ok_line n
 shown_output n rows (Ok (shows.Text text)) = text_line n text
 shown_output n rows (Err why) = error_line n rows why
 
--- a refusal in place of a command is printed; want of memory isn't
-abbrev pub ShowsStop : ℕ → List Row → Stop → (before after : List ℕ) → Type 0
-ShowsStop n rows (stops.Refused why) before after = after ≡ before ++ shown_output n rows (Err why)
-ShowsStop n rows stops.NoMemory before after = ⊥
+abbrev pub shown_root : List Row → Result Shown Why → List ℕ
+shown_root rows (Ok shown) = codes "ok"
+shown_root rows (Err why) = error_text rows why
+
+abbrev pub shown_report : ℕ → List Row → Report → KeyCmd → Result Shown Why → List ℕ
+shown_report n rows reports.Replies command shown = shown_output n rows shown
+shown_report n rows reports.Roots command shown = key_line n (name_in command) (shown_root rows shown)
+shown_report n rows reports.Sets command shown = []
+shown_report n rows (reports.Refused why) command shown = []
+
+abbrev pub well_count : Result Shown Why → ℕ
+well_count (Ok shown) = 1
+well_count (Err why) = 0
+
+-- ---- what a line asks for
+
+-- a task is what is asked
+pub record IsTask (task : Task) (asked : Asked) : Type 0 where
+  pub commands : task.commands.items ≡ asked.commands
+  pub report : task.report ≡ asked.report
+
+-- a refusal is the one that is named; want of memory is free
+abbrev pub StopsBy : {A : Type 0} → Stop → Result A Why → Type 0
+StopsBy (stops.Refused why) given = given ≡ Err why
+StopsBy stops.NoMemory given = Unit {0}
+
+-- The task of something that a line names, or of the reason why it names none; want of memory gives none.
+abbrev pub GivesTask : {A : Type 0} → (A → Asked) → Result Task AllocError → Result A Stop → Type 0
+GivesTask asked (Ok task) (Ok given) = IsTask task (asked given)
+GivesTask asked (Ok task) (Err (stops.Refused why)) = IsTask task (no_command (reports.Refused why))
+GivesTask asked (Ok task) (Err stops.NoMemory) = ⊥
+GivesTask asked (Err stop) given = Unit {0}
 
 -- how the run ends whose line n has bytes that spell none
 abbrev pub unspelled : ℕ → LineStop → Halt

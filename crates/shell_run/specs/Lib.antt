@@ -2,6 +2,8 @@ pub mod Texts
 pub mod Script
 pub mod Takings
 pub mod Outer
+pub mod Tasks
+pub mod Reports
 pub mod Transcript
 pub mod Ran
 pub mod Answers

@@ -105,6 +105,14 @@ kind_text p id Crypt = spaced (property_text p id Encryption ∷ heir_text (is_r
 abbrev pub set_line : ℕ → Plain → Row → List ℕ
 set_line n p row = reply_line n (codes "set " ++ row.name ++ kind_text p row.id row.kind)
 
+-- `N key NAME` and what came of the root of this name, which a line tries among several
+abbrev pub key_line : ℕ → (name outcome : List ℕ) → List ℕ
+key_line n name outcome = reply_line n (codes "key " ++ name ++ 32 ∷ outcome)
+
+-- so many roots went well of so many that were tried
+abbrev pub total_line : ℕ → (well tried : ℕ) → List ℕ
+total_line n well tried = text_line n (decimal well ++ 47 ∷ decimal tried)
+
 abbrev pub bad_line : ℕ → ℕ → List ℕ
 bad_line n at = reply_line n (codes "bad " ++ decimal at)
 

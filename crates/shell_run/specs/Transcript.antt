@@ -1,14 +1,12 @@
 -- What the shell does for a script: a fold over its lines, from a host that holds nothing.
-use Rattle.std.specs.Prelude.{ℕ, zero, suc, ◌+◌, nat_lt, Bool, true, false, ◌||◌, List, [], ◌∷◌, ◌++◌, length, take, drop, if◌then◌else◌, Result, Ok, Err}
+use Rattle.std.specs.Prelude.{ℕ, zero, suc, ◌+◌, Bool, true, false, ◌||◌, List, [], ◌∷◌, ◌++◌, length, take, if◌then◌else◌, Result, Ok, Err}
 use Rattle.std.specs.declared.option.Option.{Option}
 use Rattle.std.specs.declared.option.Option.TheVariants.{Some, None}
 use Rattle.std.specs.Option.{option_and_then, option_map}
 use Rattle.std.specs.List.{flat_map}
 use Rattle.dataset_tree.specs.declared.refusal.Refusal.{Refusal}
-use Rattle.dataset_tree.specs.SetName.{named}
 use Rattle.edge_io.specs.Entropy.{is_short}
 use Rattle.edge_io.specs.KeyFiles.{fetched}
-use Rattle.edge_io.specs.Lines.{lines}
 use Rattle.encryption_roots.specs.declared.props.Location.{Location}
 use Rattle.encryption_roots.specs.declared.props.Location.TheVariants.{Prompt, File}
 use Rattle.encryption_roots.specs.declared.kit.Fetched.{Fetched}
@@ -17,22 +15,23 @@ use Rattle.encryption_roots.specs.declared.kit.SeedGot.{SeedGot}
 use Rattle.encryption_roots.specs.declared.kit.SeedGot.TheVariants as seeds
 use Rattle.encryption_roots.specs.declared.kit.LineKit.{LineKit}
 use Rattle.encryption_roots.specs.declared.command.KeyCmd.{KeyCmd}
-use Rattle.encryption_roots.specs.declared.command.KeyCmd.TheVariants as commands
 use Rattle.key_machine.specs.Plain.{Plain, no_keys}
-use Rattle.key_machine.specs.Reply.{Reply, Done, Made, Text, Refused, Reaped, Skipped}
+use Rattle.key_machine.specs.Reply.{Reply, Refused}
 use Rattle.key_machine.specs.Step.{refusal_of, wanted}
 use Rattle.key_machine.specs.Told.{Wanted}
 use Rattle.key_store.specs.Calls.{stepped}
 use Rattle.shell_lines.specs.declared.line.Line.{Line}
-use Rattle.shell_lines.specs.declared.line.Line.TheVariants.{Silent, Create, LoadKey, UnloadKey, Get, List as ListSets}
 use Rattle.shell_lines.specs.Grammar.{line_of}
 use Rattle.shell_run.specs.declared.found.FoundEntry.{FoundEntry}
+use Rattle.shell_run.specs.declared.task.Report.{Report}
 use Rattle.shell_run.specs.declared.found.FoundKind.{FoundKind}
 use Rattle.shell_run.specs.declared.found.FoundKind.TheVariants.{OldKey, NewKey, Seed}
 use Rattle.shell_run.specs.Outer.{Outer, left_after}
 use Rattle.shell_run.specs.Script.{Script, ToldScript, Given, Gives, Stops, past_line, prompted, script_of, script_told, within_limits}
 use Rattle.shell_run.specs.Takings.{Taking, entries_of, has_entry, fills_of}
-use Rattle.shell_run.specs.Texts.{ok_line, text_line, error_line, set_line, bad_line, usage_line}
+use Rattle.shell_run.specs.Tasks.{Asked, asked_of}
+use Rattle.shell_run.specs.Reports.{is_refusal, reported, closing}
+use Rattle.shell_run.specs.Texts.{bad_line, usage_line}
 
 -- ---- the world
 
@@ -155,15 +154,6 @@ unless_refused spot w command None = supplied w command (kit_of spot w.files w.e
 abbrev pub commanded : Spot → World → KeyCmd → Outcome
 commanded spot w command = unless_refused spot w command (refusal_of w.present.keys command)
 
--- the command on the dataset that a word names, or why it names none
-abbrev pub command_named : (List ℕ → KeyCmd) → Result (List ℕ) Refusal → Result KeyCmd Refusal
-command_named command (Ok name) = Ok (command name)
-command_named command (Err why) = Err why
-
-abbrev pub commanded_if : Spot → World → Result KeyCmd Refusal → Outcome
-commanded_if spot w (Ok command) = commanded spot w command
-commanded_if spot w (Err why) = refused_at_once w why
-
 -- ---- a line
 
 -- a line's turn: what it leaves, what it prints, and the takings that it makes
@@ -177,41 +167,50 @@ pub data Answer : Type 0 where
   Goes : (turn : Turn) → Answer
   Ends : (number at : ℕ) (world : World) (takings : List Taking) → Answer
 
--- what a reply to line n prints; datasets are named by the tree
-abbrev pub reply_output : ℕ → Plain → Reply → List ℕ
-reply_output n p Done = ok_line n
-reply_output n p (Made id) = ok_line n
-reply_output n p (Text text) = text_line n text
-reply_output n p (Refused why) = error_line n p.tree.rows why
-reply_output n p (Reaped dataset dropped) = []
-reply_output n p Skipped = []
+-- what the commands of a line have done so far: the turn that they make, how many were tried, and how many went well
+pub record Performed : Type 0 where
+  pub turn : Turn
+  pub tried : ℕ
+  pub well : ℕ
 
--- the answer to line n by the outcome of its command
-abbrev pub answered : ℕ → Outcome → Answer
-answered n (Does done) = Goes (record {
-  world = done.world;
-  output = reply_output n done.world.present.keys done.reply;
-  takings = done.takings;
-})
-answered n (Halts number at w takings) = Ends number at w takings
+abbrev pub begun : World → Performed
+begun w = record { turn = record { world = w; output = []; takings = [] }; tried = 0; well = 0 }
 
--- a key command on the dataset that a word names
-abbrev pub key_answer : ℕ → List FoundEntry → World → (List ℕ → KeyCmd) → List ℕ → Answer
-key_answer n entries w command word =
-    answered n (commanded_if (record { line = n; part = 0; entries = entries }) w (command_named command (named word)))
+-- one command more
+abbrev pub with_done : ℕ → Report → KeyCmd → Performed → Commanded → Performed
+with_done n report command before done = record {
+  turn = record {
+    world = done.world;
+    output = before.turn.output ++ reported n done.world.present.keys report command done.reply;
+    takings = before.turn.takings ++ done.takings;
+  };
+  tried = before.tried + 1;
+  well = if is_refusal done.reply then before.well else before.well + 1;
+}
+
+-- behind all commands
+abbrev pub closed : ℕ → Report → Performed → Turn
+closed n report done =
+    record done.turn { output = done.turn.output ++ closing n done.turn.world.present.keys report done.well done.tried }
+
+-- where a command halts, what those before it did stays done
+abbrev pub unless_halted : Performed → Outcome → (Commanded → Answer) → Answer
+unless_halted before (Does done) rest = rest done
+unless_halted before (Halts number at w takings) rest = Ends number at w (before.turn.takings ++ takings)
+
+-- Commands of line n one after another, each of a part of its own, behind what was done before them.
+abbrev pub performed : ℕ → List FoundEntry → Report → Performed → List KeyCmd → Answer
+performed n entries report before [] = Goes (closed n report before)
+performed n entries report before (command ∷ later) =
+    unless_halted before (commanded (record { line = n; part = before.tried; entries = entries }) before.turn.world command)
+    (λ done. performed n entries report (with_done n report command before done) later)
+
+abbrev pub answer_to : ℕ → List FoundEntry → World → Asked → Answer
+answer_to n entries w asked = performed n entries asked.report (begun w) asked.commands
 
 -- line n, taken from the world's script, where its own failed takings are these
 abbrev pub answer_of : ℕ → List FoundEntry → World → Line → Answer
-answer_of n entries w Silent = Goes (record { world = w; output = []; takings = [] })
-answer_of n entries w (Create word opts) = key_answer n entries w (λ name. commands.Create name opts) word
-answer_of n entries w (LoadKey word check_only place) = key_answer n entries w (λ name. commands.Load name check_only place) word
-answer_of n entries w (UnloadKey word) = key_answer n entries w (λ name. commands.Unload name) word
-answer_of n entries w (Get prop word) = key_answer n entries w (λ name. commands.Get name prop) word
-answer_of n entries w ListSets = Goes (record {
-  world = w;
-  output = flat_map (set_line n w.present.keys) w.present.keys.tree.rows ++ ok_line n;
-  takings = [];
-})
+answer_of n entries w line = answer_to n entries w (asked_of w.present.keys line)
 
 -- the bytes spell a line of the language
 abbrev pub checked : ℕ → List ℕ → Result Line ℕ

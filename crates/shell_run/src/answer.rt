@@ -2,23 +2,22 @@
 ghost use Rattle.std.specs.Prelude.{◌≡◌, ◌≤◌, ◌++◌, IfOk, OnErr, OnOk, length};
 ghost use Rattle.std.specs.List.{flat_map};
 ghost use Rattle.std.specs.Result.{result_err};
-ghost use Rattle.dataset_tree.specs.Refusal.{Gives};
-ghost use Rattle.dataset_tree.specs.SetName.{named};
-ghost use Rattle.encryption_roots.specs.declared.command.KeyCmd.TheVariants as commands;
 ghost use Rattle.shell_lines.specs.Grammar.{line_of};
 ghost use Rattle.shell_lines.specs.Sized.{HasRecordSize};
-ghost use Rattle.shell_run.specs.Answers.{Acts, Commands, HasAnswer, AreOfLine, Reads, ShowsStop, WhereTold, shown_output, unspelled};
+ghost use Rattle.shell_run.specs.Answers.{Acts, ActsAs, AreOfLine, HasAnswer, IsOfLine, PerformsOne, Reads, WhereTold, shown_output, shown_report, spot_of, unspelled, well_count};
+ghost use Rattle.shell_run.specs.Reports.{closing, name_in};
 ghost use Rattle.shell_run.specs.Texts.{ok_line, set_line};
-ghost use Rattle.shell_run.specs.Transcript.{answer_if, answer_of, told_world, command_named};
+ghost use Rattle.shell_run.specs.Transcript.{answer_if, answer_of, begun, commanded, performed, told_world};
 
 use crate::command::{Shown, execute};
 use crate::ending::Halt;
 use crate::outside::Outside;
-use crate::reply::{push_error, push_ok, push_sets, push_text};
-use dataset_tree::{NoMemory, Refusal, SetName, Stop};
-use encryption_roots::{KeyCmd, Location, Options, Prop};
+use crate::reply::{push_error, push_key, push_ok, push_sets, push_text, push_total};
+use crate::task::{MAX_PARTS, Report, task_of};
+use dataset_tree::{NoMemory, Refusal, SetName};
+use encryption_roots::KeyCmd;
 use key_store::KeyState;
-use shell_lines::{Line, LineStop, Word, parse_line};
+use shell_lines::{Line, LineStop, parse_line};
 use std::alloc::Global;
 
 /// Carries out the line of this number, and adds what it prints. An `Err` says that the run is over: the bytes spell no line, or the
@@ -71,76 +70,155 @@ fn carry_out<W: Outside>(
     ensures reads { Reads (result_err result) (W.script outside.old) (W.script outside.new) (W.faults outside.old) (W.faults outside.new) }
     ensures holds { W.holds outside.new ≡ W.holds outside.old }
 {
-    match line {
-        Line::Silent => Ok(()),
-        Line::List => push_list(output, number, keys),
-        Line::Create { name, opts } => {
-            let command = create_command(alloc, name, opts);
-            run_command(alloc, keys, outside, number, command, output)
-        }
-        Line::LoadKey {
-            name,
-            check_only,
-            place,
-        } => {
-            let command = load_command(alloc, name, *check_only, place);
-            run_command(alloc, keys, outside, number, command, output)
-        }
-        Line::UnloadKey { name } => {
-            let command = unload_command(alloc, name);
-            run_command(alloc, keys, outside, number, command, output)
-        }
-        Line::Get { prop, name } => {
-            let command = get_command(alloc, *prop, name);
-            run_command(alloc, keys, outside, number, command, output)
-        }
-    }
+    let task = match task_of(alloc, keys, line) {
+        Ok(task) => task,
+        Err(_) => return Err(Halt::NoMemory),
+    };
+    perform(
+        alloc,
+        keys,
+        outside,
+        number,
+        &task.report,
+        task.commands.as_slice(),
+        output,
+    )
 }
 
-/// Adds the rows of all datasets, and that the line was carried out.
-fn push_list(output: &mut Vec<u8>, number: u32, keys: &KeyState) -> Result<(), Halt>
-    ensures text { OnOk result (output.new.items ≡ output.old.items ++ (flat_map (set_line number keys.now) keys.now.tree.rows ++ ok_line number)) }
-    ensures stops { OnErr result (result ≡ Err Halt.NoMemory) }
-{
-    push_sets(output, number, keys)?;
-    push_ok(output, number)?;
-    Ok(())
-}
-
-/// Carries out a command, or answers why there is none.
-fn run_command<W: Outside>(
+/// Carries out commands one after another, each as a part of its own, and adds the report of them.
+fn perform<W: Outside>(
     alloc: Global,
     keys: &mut KeyState,
     outside: &mut W,
     number: u32,
-    command: Result<KeyCmd, Stop>,
+    report: &Report,
+    commands: &[KeyCmd],
     output: &mut Vec<u8>,
 ) -> Result<(), Halt>
-    requires { AreOfLine command }
+    requires few { length commands.now ≤ MAX_PARTS }
+    requires of_line { AreOfLine commands.now }
     ensures told { Acts number (W.told outside.old) (W.told outside.new) (λ made.
         WhereTold (told_world keys.old (W.told outside.old) (W.script outside.old)) made (λ entries w.
-        Commands result number command entries w (told_world keys.new (W.told outside.new) (W.script outside.new)) output.old.items output.new.items made)) }
+        HasAnswer result (performed number entries report.now (begun w) commands.now)
+        (told_world keys.new (W.told outside.new) (W.script outside.new)) output.old.items output.new.items made)) }
     ensures reads { Reads (result_err result) (W.script outside.old) (W.script outside.new) (W.faults outside.old) (W.faults outside.new) }
     ensures holds { W.holds outside.new ≡ W.holds outside.old }
 {
-    match command {
-        Ok(command) => match execute(alloc, keys, outside, number, &command) {
-            Ok(shown) => push_shown(output, number, keys, &shown),
-            Err(halt) => Err(halt),
-        },
-        Err(stop) => push_stop(output, number, keys, stop),
+    let mut tried: u64 = 0;
+    let mut well: u64 = 0;
+    for command in commands {
+        let part = tried as u32;
+        match perform_one(alloc, keys, outside, number, part, report, command, output) {
+            Ok(count) => well += count,
+            Err(halt) => return Err(halt),
+        }
+        tried += 1;
+    }
+    push_closing(output, number, keys, report, well, tried)
+}
+
+/// Carries out a command of this part of the line, adds the report of it, and answers how many commands went well: one or none.
+fn perform_one<W: Outside>(
+    alloc: Global,
+    keys: &mut KeyState,
+    outside: &mut W,
+    number: u32,
+    part: u32,
+    report: &Report,
+    command: &KeyCmd,
+    output: &mut Vec<u8>,
+) -> Result<u64, Halt>
+    requires { IsOfLine command.now }
+    ensures told { ActsAs number part (W.told outside.old) (W.told outside.new) (λ made.
+        WhereTold (told_world keys.old (W.told outside.old) (W.script outside.old)) made (λ entries w.
+        PerformsOne result number report.now command.now (commanded (spot_of number part entries) w command.now)
+        (told_world keys.new (W.told outside.new) (W.script outside.new)) output.old.items output.new.items made)) }
+    ensures few { IfOk result (λ count. count ≤ 1) }
+    ensures reads { Reads (result_err result) (W.script outside.old) (W.script outside.new) (W.faults outside.old) (W.faults outside.new) }
+    ensures holds { W.holds outside.new ≡ W.holds outside.old }
+{
+    match execute(alloc, keys, outside, number, part, command) {
+        Ok(shown) => push_report(output, number, keys, report, command, &shown),
+        Err(halt) => Err(halt),
     }
 }
 
-/// Adds why there is no command.
-fn push_stop(output: &mut Vec<u8>, number: u32, keys: &KeyState, stop: Stop) -> Result<(), Halt>
-    ensures text { OnOk result (ShowsStop number keys.now.tree.rows stop output.old.items output.new.items) }
+/// Adds the report of a command, and answers how many commands went well: one or none.
+fn push_report(
+    output: &mut Vec<u8>,
+    number: u32,
+    keys: &KeyState,
+    report: &Report,
+    command: &KeyCmd,
+    shown: &Result<Shown, Refusal>,
+) -> Result<u64, Halt>
+    ensures text { OnOk result (output.new.items ≡ output.old.items ++ shown_report number keys.now.tree.rows report.now command.now shown.now) }
+    ensures count { IfOk result (λ count. count ≡ well_count shown.now) }
     ensures stops { OnErr result (result ≡ Err Halt.NoMemory) }
 {
-    match stop {
-        Stop::Refused(why) => push_shown(output, number, keys, &Err(why)),
-        Stop::NoMemory => Err(Halt::NoMemory),
+    match report {
+        Report::Replies => push_shown(output, number, keys, shown)?,
+        Report::Roots => push_key(output, number, keys.tree(), name_in(command), shown)?,
+        Report::Sets | Report::Refused(_) => {}
     }
+    Ok(well_count(shown))
+}
+
+fn well_count(shown: &Result<Shown, Refusal>) -> u64
+    ensures { result ≡ well_count shown.now }
+{
+    match shown {
+        Ok(_) => 1,
+        Err(_) => 0,
+    }
+}
+
+/// The name of the dataset that a command is about.
+fn name_in(command: &KeyCmd) -> &SetName
+    ensures { result.now ≡ name_in command.now }
+{
+    match command {
+        KeyCmd::Create { name, .. }
+        | KeyCmd::Load { name, .. }
+        | KeyCmd::Unload { name }
+        | KeyCmd::Change { name, .. }
+        | KeyCmd::Inherit { name, .. }
+        | KeyCmd::Mount { name }
+        | KeyCmd::Unmount { name }
+        | KeyCmd::Get { name, .. }
+        | KeyCmd::Clone { name, .. }
+        | KeyCmd::Receive { name, .. }
+        | KeyCmd::Destroy { name, .. } => name,
+    }
+}
+
+/// Adds what a line reports behind its commands.
+fn push_closing(
+    output: &mut Vec<u8>,
+    number: u32,
+    keys: &KeyState,
+    report: &Report,
+    well: u64,
+    tried: u64,
+) -> Result<(), Halt>
+    ensures text { OnOk result (output.new.items ≡ output.old.items ++ closing number keys.now report.now well tried) }
+    ensures stops { OnErr result (result ≡ Err Halt.NoMemory) }
+{
+    match report {
+        Report::Replies => {}
+        Report::Roots => push_total(output, number, well, tried)?,
+        Report::Sets => push_list(output, number, keys)?,
+        Report::Refused(why) => push_error(output, number, keys.tree(), why)?,
+    }
+    Ok(())
+}
+
+/// Adds the rows of all datasets, and that the line was carried out.
+fn push_list(output: &mut Vec<u8>, number: u32, keys: &KeyState) -> Result<(), NoMemory>
+    ensures text { OnOk result (output.new.items ≡ output.old.items ++ (flat_map (set_line number keys.now) keys.now.tree.rows ++ ok_line number)) }
+{
+    push_sets(output, number, keys)?;
+    push_ok(output, number)
 }
 
 /// Adds what a command shows, or why it is refused.
@@ -149,63 +227,12 @@ fn push_shown(
     number: u32,
     keys: &KeyState,
     shown: &Result<Shown, Refusal>,
-) -> Result<(), Halt>
+) -> Result<(), NoMemory>
     ensures text { OnOk result (output.new.items ≡ output.old.items ++ shown_output number keys.now.tree.rows shown.now) }
-    ensures stops { OnErr result (result ≡ Err Halt.NoMemory) }
 {
     match shown {
-        Ok(Shown::Done) => push_ok(output, number)?,
-        Ok(Shown::Text(text)) => push_text(output, number, text.as_bytes())?,
-        Err(why) => push_error(output, number, keys.tree(), why)?,
+        Ok(Shown::Done) => push_ok(output, number),
+        Ok(Shown::Text(text)) => push_text(output, number, text.as_bytes()),
+        Err(why) => push_error(output, number, keys.tree(), why),
     }
-    Ok(())
-}
-
-fn create_command(alloc: Global, name: &Word, opts: &Options) -> Result<KeyCmd, Stop>
-    ensures { Gives result (command_named (λ name. commands.Create name opts.now) (named name.now)) }
-{
-    let name = SetName::parse(alloc, name.as_bytes())?;
-    let opts = opts.copy()?;
-    Ok(KeyCmd::Create { name, opts })
-}
-
-fn load_command(
-    alloc: Global,
-    name: &Word,
-    check_only: bool,
-    place: &Option<Location>,
-) -> Result<KeyCmd, Stop>
-    ensures { Gives result (command_named (λ name. commands.Load name check_only place.now) (named name.now)) }
-{
-    let name = SetName::parse(alloc, name.as_bytes())?;
-    let place = copy_place(place)?;
-    Ok(KeyCmd::Load {
-        name,
-        check_only,
-        place,
-    })
-}
-
-/// An equal location, where there is one.
-fn copy_place(place: &Option<Location>) -> Result<Option<Location>, NoMemory>
-    ensures { IfOk result (λ copied. copied ≡ place.now) }
-{
-    match place {
-        None => Ok(None),
-        Some(place) => Ok(Some(place.copy()?)),
-    }
-}
-
-fn unload_command(alloc: Global, name: &Word) -> Result<KeyCmd, Stop>
-    ensures { Gives result (command_named (λ name. commands.Unload name) (named name.now)) }
-{
-    let name = SetName::parse(alloc, name.as_bytes())?;
-    Ok(KeyCmd::Unload { name })
-}
-
-fn get_command(alloc: Global, prop: Prop, name: &Word) -> Result<KeyCmd, Stop>
-    ensures { Gives result (command_named (λ name. commands.Get name prop) (named name.now)) }
-{
-    let name = SetName::parse(alloc, name.as_bytes())?;
-    Ok(KeyCmd::Get { name, prop })
 }

@@ -2,19 +2,21 @@
 ghost use Rattle.std.specs.Prelude.{◌≡◌, Err, List, IfOk, Ok, is_some, true};
 ghost use Rattle.std.specs.Result.{result_err};
 ghost use Rattle.edge_io.specs.Faults.{Rose};
+ghost use Rattle.encryption_roots.specs.declared.command.KeyCmd.TheVariants as commands;
 ghost use Rattle.key_machine.specs.Fair.{WasAsked};
 ghost use Rattle.key_store.specs.Calls.{stepped, state_after};
 ghost use Rattle.shell_run.specs.declared.found.FoundEntry.{FoundEntry};
-ghost use Rattle.shell_run.specs.Answers.{Acts, Agrees, Executes, Fetches, IsOfLine, HasWanted, Reads, Replies, TakesKit, WhereTold, settled, spot_of, wants_of};
+ghost use Rattle.shell_run.specs.Answers.{Acts, ActsAs, Agrees, Executes, Fetches, IsOfLine, HasWanted, Reads, Replies, TakesKit, WhereTold, settled, spot_of, wants_of};
 ghost use Rattle.shell_run.specs.Takings.{is_fetch};
 ghost use Rattle.shell_run.specs.Transcript.{commanded, told_world};
 
 use crate::ending::Halt;
 use crate::found::{FoundEntry, FoundKind};
 use crate::outside::Outside;
-use dataset_tree::{Refusal, Stop};
-use encryption_roots::{Fetched, KeyCmd, LineKit, Location, PropText, SeedGot};
-use key_store::{KeyState, Needs};
+use change_key::{plan_change, plan_inherit};
+use dataset_tree::{Refusal, SetName, Stop};
+use encryption_roots::{Fetched, KeyCmd, LineKit, Location, Options, PropText, SeedGot};
+use key_store::{KeyState, Needs, states_are_sound};
 use std::alloc::Global;
 
 /// What a command that isn't refused shows.
@@ -24,19 +26,20 @@ pub(crate) enum Shown {
     Text(PropText),
 }
 
-/// Carries out a command of line `number`, with what it takes for it, or gives its refusal. Where the state refuses it, nothing is
+/// Carries out a command of line `number`, which is this part of it, with what it takes for it, or gives its refusal. Where the state refuses it, nothing is
 /// taken. An `Err` says that the run is over.
 pub(crate) fn execute<W: Outside>(
     alloc: Global,
     keys: &mut KeyState,
     outside: &mut W,
     number: u32,
+    part: u32,
     command: &KeyCmd,
 ) -> Result<Result<Shown, Refusal>, Halt>
     requires { IsOfLine command.now }
-    ensures told { Acts number (W.told outside.old) (W.told outside.new) (λ made.
+    ensures told { ActsAs number part (W.told outside.old) (W.told outside.new) (λ made.
         WhereTold (told_world keys.old (W.told outside.old) (W.script outside.old)) made (λ entries w.
-        Executes result number (commanded (spot_of number entries) w command.now) (told_world keys.new (W.told outside.new) (W.script outside.new)) made)) }
+        Executes result (commanded (spot_of number part entries) w command.now) (told_world keys.new (W.told outside.new) (W.script outside.new)) made)) }
     ensures reads { Reads (result_err result) (W.script outside.old) (W.script outside.new) (W.faults outside.old) (W.faults outside.new) }
     // These two refusals come only where a taking for this line failed.
     ensures key_fault { result ≡ Ok (Err Refusal.KeyFault) →
@@ -49,11 +52,11 @@ pub(crate) fn execute<W: Outside>(
         Ok(needs) => needs,
         Err(stop) => return settle(Err(stop)),
     };
-    let kit = match take_kit(alloc, outside, number, &needs) {
+    let kit = match take_kit(alloc, outside, number, part, &needs) {
         Ok(kit) => kit,
         Err(halt) => return Err(halt),
     };
-    settle(carry(keys, command, &kit))
+    settle(carry(alloc, keys, command, &kit))
 }
 
 /// What is shown, or a refusal; want of memory ends the run.
@@ -68,7 +71,7 @@ fn settle(answer: Result<Shown, Stop>) -> Result<Result<Shown, Refusal>, Halt>
 }
 
 /// Carries out a command with its kit. No line gives any of the last ones yet.
-fn carry(keys: &mut KeyState, command: &KeyCmd, kit: &LineKit) -> Result<Shown, Stop>
+fn carry(alloc: Global, keys: &mut KeyState, command: &KeyCmd, kit: &LineKit) -> Result<Shown, Stop>
     requires { IsOfLine command.now }
     ensures reply { Replies result (stepped keys.old command.now kit.now).reply }
     ensures state { keys.new ≡ state_after result keys.old (stepped keys.old command.now kit.now).state }
@@ -94,14 +97,59 @@ fn carry(keys: &mut KeyState, command: &KeyCmd, kit: &LineKit) -> Result<Shown, 
             None => Err(Stop::Refused(Refusal::NoSuch)),
             Some(id) => Ok(Shown::Text(keys.get_prop(id, *prop)?)),
         },
-        KeyCmd::Change { .. }
-        | KeyCmd::Inherit { .. }
-        | KeyCmd::Mount { .. }
+        KeyCmd::Change {
+            name,
+            opts,
+            load_first,
+        } => change(alloc, keys, name, opts, *load_first, kit),
+        KeyCmd::Inherit { name, load_first } => inherit(alloc, keys, name, *load_first, kit),
+        KeyCmd::Mount { .. }
         | KeyCmd::Unmount { .. }
         | KeyCmd::Clone { .. }
         | KeyCmd::Receive { .. }
         | KeyCmd::Destroy { .. } => unreachable!(),
     }
+}
+
+/// Gives a dataset a key of its own.
+fn change(
+    alloc: Global,
+    keys: &mut KeyState,
+    name: &SetName,
+    opts: &Options,
+    load_first: bool,
+    kit: &LineKit,
+) -> Result<Shown, Stop>
+    ensures reply { Replies result (stepped keys.old (commands.Change name.now opts.now load_first) kit.now).reply }
+    ensures state { keys.new ≡ state_after result keys.old (stepped keys.old (commands.Change name.now opts.now load_first) kit.now).state }
+{
+    states_are_sound(keys);
+    let plan = match plan_change(alloc, keys, name, opts, load_first, kit) {
+        Ok(plan) => plan,
+        Err(stop) => return Err(stop),
+    };
+    keys.apply_change(plan);
+    Ok(Shown::Done)
+}
+
+/// Lets a root use its parent's key.
+fn inherit(
+    alloc: Global,
+    keys: &mut KeyState,
+    name: &SetName,
+    load_first: bool,
+    kit: &LineKit,
+) -> Result<Shown, Stop>
+    ensures reply { Replies result (stepped keys.old (commands.Inherit name.now load_first) kit.now).reply }
+    ensures state { keys.new ≡ state_after result keys.old (stepped keys.old (commands.Inherit name.now load_first) kit.now).state }
+{
+    states_are_sound(keys);
+    let plan = match plan_inherit(alloc, keys, name, load_first, kit) {
+        Ok(plan) => plan,
+        Err(stop) => return Err(stop),
+    };
+    keys.apply_change(plan);
+    Ok(Shown::Done)
 }
 
 /// Takes the present key, the new key and a seed, each that is needed, whatever the others gave. Where a prompt ends the run, what
@@ -110,29 +158,32 @@ fn take_kit<W: Outside>(
     alloc: Global,
     outside: &mut W,
     number: u32,
+    part: u32,
     needs: &Needs,
 ) -> Result<LineKit, Halt>
-    ensures takes { Acts number (W.told outside.old) (W.told outside.new) (λ made. (entries : List FoundEntry) → Agrees entries made →
-        TakesKit result number (wants_of needs.now) entries (W.told outside.old) (W.script outside.old) (W.script outside.new) made) }
+    ensures takes { ActsAs number part (W.told outside.old) (W.told outside.new) (λ made. (entries : List FoundEntry) → Agrees entries made →
+        TakesKit result number part (wants_of needs.now) entries (W.told outside.old) (W.script outside.old) (W.script outside.new) made) }
     ensures reads { Reads (result_err result) (W.script outside.old) (W.script outside.new) (W.faults outside.old) (W.faults outside.new) }
     ensures asked { IfOk result (λ kit. HasWanted needs.now kit) }
-    ensures key_fault { IfOk result (λ kit. kit.new_key ≡ Fetched.Fault →
+    ensures old_key_fault { IfOk result (λ kit. kit.old_key ≡ Fetched.Fault →
+        Rose (W.told outside.old).fetches.faults (W.told outside.new).fetches.faults) }
+    ensures new_key_fault { IfOk result (λ kit. kit.new_key ≡ Fetched.Fault →
         Rose (W.told outside.old).fetches.faults (W.told outside.new).fetches.faults) }
     ensures entropy_fault { IfOk result (λ kit. kit.seed ≡ SeedGot.Fault →
         Rose (W.told outside.old).fills.faults (W.told outside.new).fills.faults) }
     ensures holds { W.holds outside.new ≡ W.holds outside.old }
 {
-    let old_entry = taking_of(number, FoundKind::OldKey);
+    let old_entry = taking_of(number, part, FoundKind::OldKey);
     let old_key = match fetch_if(alloc, outside, &needs.old_place, old_entry) {
         Ok(old_key) => old_key,
         Err(halt) => return Err(halt),
     };
-    let new_entry = taking_of(number, FoundKind::NewKey);
+    let new_entry = taking_of(number, part, FoundKind::NewKey);
     let new_key = match fetch_if(alloc, outside, &needs.new_place, new_entry) {
         Ok(new_key) => new_key,
         Err(halt) => return Err(halt),
     };
-    let seed = match outside.fill(needs.seed, taking_of(number, FoundKind::Seed)) {
+    let seed = match outside.fill(needs.seed, taking_of(number, part, FoundKind::Seed)) {
         Ok(seed) => seed,
         Err(_) => return Err(Halt::NoMemory),
     };
@@ -165,13 +216,8 @@ fn fetch_if<W: Outside>(
     }
 }
 
-/// A taking of this line, which is no part of several.
-fn taking_of(line: u32, what: FoundKind) -> FoundEntry
-    ensures { result ≡ record { line = line; part = 0; what = what } }
+fn taking_of(line: u32, part: u32, what: FoundKind) -> FoundEntry
+    ensures { result ≡ record { line = line; part = part; what = what } }
 {
-    FoundEntry {
-        line,
-        part: 0,
-        what,
-    }
+    FoundEntry { line, part, what }
 }

@@ -10,10 +10,13 @@ mod outside;
 mod reply;
 mod run;
 mod script;
+mod task;
 
 pub use found::{Found, FoundEntry, FoundKind};
 pub use laws::{failures_tell_what_failed, parts_stand_in_order};
 pub use run::run_alone;
 
+#[cfg(test)]
+mod plan_tests;
 #[cfg(test)]
 mod tests;

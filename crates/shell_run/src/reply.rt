@@ -3,9 +3,11 @@ ghost use Rattle.std.specs.Prelude.{◌≡◌, ◌++◌, ◌∷◌, [], OnOk, de
 ghost use Rattle.std.specs.List.{flat_map};
 ghost use Rattle.hex.specs.Hex.{encode_lower};
 ghost use Rattle.key_machine.specs.Get.{status_text};
-ghost use Rattle.shell_run.specs.Texts.{ok_line, text_line, error_line, heir_text, kind_text, set_line, bad_line, dataset_text, material_text, fields_of, spaced};
+ghost use Rattle.shell_run.specs.Answers.{shown_root};
+ghost use Rattle.shell_run.specs.Texts.{ok_line, text_line, error_line, error_text, key_line, total_line, heir_text, kind_text, set_line, bad_line, dataset_text, material_text, fields_of, spaced};
 
-use dataset_tree::{Kind, MaterialFault, NoMemory, Refusal, Row, Tree};
+use crate::command::Shown;
+use dataset_tree::{Kind, MaterialFault, NoMemory, Refusal, Row, SetName, Tree};
 use encryption_roots::Prop;
 use itoa::Buffer;
 use key_store::KeyState;
@@ -111,11 +113,66 @@ pub(crate) fn push_error(
     ensures { OnOk result (text.new.items ≡ text.old.items ++ error_line line tree.now.rows why.now) }
 {
     push_number(text, line as u64)?;
-    text.extend_from_slice(b" error ")?;
+    text.extend_from_slice(b" ")?;
+    push_error_text(text, tree, why)?;
+    text.extend_from_slice(b"\n")
+}
+
+fn push_error_text(text: &mut Vec<u8>, tree: &Tree, why: &Refusal) -> Result<(), NoMemory>
+    ensures { OnOk result (text.new.items ≡ text.old.items ++ error_text tree.now.rows why.now) }
+{
+    text.extend_from_slice(b"error ")?;
     push_number(text, why.number() as u64)?;
     text.extend_from_slice(b" ")?;
     text.extend_from_slice(why.name().as_bytes())?;
-    push_fields(text, tree, why)?;
+    push_fields(text, tree, why)
+}
+
+/// Adds what came of a root that a line tries among several.
+pub(crate) fn push_key(
+    text: &mut Vec<u8>,
+    line: u32,
+    tree: &Tree,
+    name: &SetName,
+    shown: &Result<Shown, Refusal>,
+) -> Result<(), NoMemory>
+    ensures { OnOk result (text.new.items ≡ text.old.items ++ key_line line name.now (shown_root tree.now.rows shown.now)) }
+{
+    push_number(text, line as u64)?;
+    text.extend_from_slice(b" key ")?;
+    text.extend_from_slice(name.as_bytes())?;
+    text.extend_from_slice(b" ")?;
+    push_root(text, tree, shown)?;
+    text.extend_from_slice(b"\n")
+}
+
+fn push_root(
+    text: &mut Vec<u8>,
+    tree: &Tree,
+    shown: &Result<Shown, Refusal>,
+) -> Result<(), NoMemory>
+    ensures { OnOk result (text.new.items ≡ text.old.items ++ shown_root tree.now.rows shown.now) }
+{
+    match shown {
+        Ok(_) => text.extend_from_slice(b"ok"),
+        Err(why) => push_error_text(text, tree, why),
+    }
+}
+
+/// Adds how many roots went well, of so many that were tried.
+pub(crate) fn push_total(
+    text: &mut Vec<u8>,
+    line: u32,
+    well: u64,
+    tried: u64,
+) -> Result<(), NoMemory>
+    ensures { OnOk result (text.new.items ≡ text.old.items ++ total_line line well tried) }
+{
+    push_number(text, line as u64)?;
+    text.extend_from_slice(b" ok ")?;
+    push_number(text, well)?;
+    text.extend_from_slice(b"/")?;
+    push_number(text, tried)?;
     text.extend_from_slice(b"\n")
 }
 

@@ -129,58 +129,86 @@ create -o keyformat=raw -o keylocation=file:///k tank
 get keystatus lake
 ";
 
-// A run of the script: which fetches and which fills fail, how many bytes of entropy there are, and then the replies and the
-// failed takings. Line 1 takes a seed although its key fails; line 5 makes a dataset only where line 1 has made none.
+const MANY_ROOTS: &[u8] = b"create -o keyformat=raw -o keylocation=file:///k a
+create -o keyformat=raw -o keylocation=file:///k b
+create -o keyformat=raw -o keylocation=file:///k b/c
+unload-key -r b
+unload-key -a
+load-key -a
+load-key -a
+change-key b
+change-key -i b/c
+";
+
+// A run of a script: which fetches and which fills fail, how many bytes of entropy there are, and then the replies and the
+// failed takings, each with its line and part. Of the first script line 1 takes a seed although its key fails; line 5 makes a
+// dataset only where line 1 has made none. Of the second the second of three fetches of line 6 fails, and the seed of line 8
+// behind a good key.
 type Row = (
+    &'static [u8],
     &'static [u32],
     &'static [u32],
     usize,
     &'static [u8],
-    &'static [(u32, FoundKind)],
+    &'static [(u32, u32, FoundKind)],
 );
 
-const ROWS: [Row; 4] = [
+const ROWS: [Row; 5] = [
     (
+        KEYS,
         &[0],
         &[],
         96,
         b"1 error 12 KeyFault\n2 ok\n3 ok\n4 ok\n5 ok\n6 ok available\n",
-        &[(1, FoundKind::NewKey)],
+        &[(1, 0, FoundKind::NewKey)],
     ),
     (
+        KEYS,
         &[2],
         &[],
         64,
         b"1 ok\n2 ok\n3 ok\n4 error 12 KeyFault\n5 error 2 Exists\n6 ok unavailable\n",
-        &[(4, FoundKind::NewKey)],
+        &[(4, 0, FoundKind::NewKey)],
     ),
     (
+        KEYS,
         &[],
         &[0],
         64,
         b"1 error 13 EntropyFault\n2 ok\n3 ok\n4 ok\n5 ok\n6 ok available\n",
-        &[(1, FoundKind::Seed)],
+        &[(1, 0, FoundKind::Seed)],
     ),
     (
+        KEYS,
         &[0, 1],
         &[0],
         31,
         b"1 error 12 KeyFault\n2 error 12 KeyFault\n3 error 1 NoSuch\n4 error 1 NoSuch\n5 error 13 EntropyFault\n6 error 1 NoSuch\n",
         &[
-            (1, FoundKind::NewKey),
-            (1, FoundKind::Seed),
-            (2, FoundKind::NewKey),
-            (2, FoundKind::Seed),
-            (5, FoundKind::Seed),
+            (1, 0, FoundKind::NewKey),
+            (1, 0, FoundKind::Seed),
+            (2, 0, FoundKind::NewKey),
+            (2, 0, FoundKind::Seed),
+            (5, 0, FoundKind::Seed),
         ],
+    ),
+    (
+        MANY_ROOTS,
+        &[4],
+        &[3],
+        160,
+        b"1 ok\n2 ok\n3 ok\n4 key b ok\n4 key b/c ok\n4 ok 2/2\n5 key a ok\n5 ok 1/1\n\
+          6 key a ok\n6 key b error 12 KeyFault\n6 key b/c ok\n6 ok 2/3\n7 key b ok\n7 ok 1/1\n\
+          8 error 13 EntropyFault\n9 ok\n",
+        &[(6, 1, FoundKind::NewKey), (8, 0, FoundKind::Seed)],
     ),
 ];
 
 #[test]
 fn a_run_goes_on_behind_failed_takings_and_lists_them(rt: HostRuntime) -> Result<(), Fail> {
     let alloc = rt.alloc();
-    for (fetches, fills, len, replies, failed) in ROWS {
-        let mut source = MemSource::new(Vec::from_slice(alloc, KEYS)?, Vec::new(alloc));
+    for (script, fetches, fills, len, replies, failed) in ROWS {
+        let mut source = MemSource::new(Vec::from_slice(alloc, script)?, Vec::new(alloc));
         let mut sink = MemSink::new(Vec::new(alloc));
         let mut files = key_files(alloc, fetches)?;
         let mut entropy = entropy_of(alloc, len, fills)?;
@@ -199,7 +227,7 @@ fn a_run_goes_on_behind_failed_takings_and_lists_them(rt: HostRuntime) -> Result
             .entries()
             .iter()
             .map(|entry| (entry.line, entry.part, entry.what));
-        assert!(rt; listed.eq(failed.iter().map(|&(line, what)| (line, 0, what))));
+        assert!(rt; listed.eq(failed.iter().copied()));
     }
     Ok(())
 }

@@ -1,52 +1,16 @@
-use Rattle.std.proofs.Common.{refl, Ok, ◌++◌, [], ap}
-use Rattle.std.specs.List.{flat_map}
-use Rattle.dataset_tree.specs.SetName.{named}
-use Rattle.encryption_roots.specs.declared.command.KeyCmd.TheVariants as commands
-use Rattle.shell_lines.specs.declared.line.Line.TheVariants.{Silent, Create, LoadKey, UnloadKey, Get, List as ListSets}
-use Rattle.shell_run.specs.Texts.{ok_line, set_line}
-use Rattle.shell_run.specs.Transcript.{command_named}
-use Rattle.shell_run.proofs.CommandLemmas.{carried, carried_still}
-use Rattle.shell_run.proofs.WritingLemmas.{append_nil}
+use Rattle.std.proofs.Common.{◌∙◌}
+use Rattle.shell_run.proofs.PerformLemmas.{carried, carried_not}
+use Rattle.shell_run.proofs.TaskLemmas.{task_of_line}
 use Rattle.shell_run.proofs.answer.carry_out.Goals as goal
 
-pub returns-in-Silent-clause-told : goal.returns-in-Silent-clause-told
-returns-in-Silent-clause-told g c =
-    rw c.in-Silent.is
-    (carried_still c.args.number c.args.keys.now (g.W.Outside.told c.args.outside.now) (g.W.Outside.script c.args.outside.now) Silent (λ w. record { world = w; output = []; takings = [] }) [] (Ok tt)
-    c.args.output.now.items c.args.output.now.items (λ entries w. refl) (λ w. refl) (λ w. refl) (λ w keys. refl) (append_nil c.args.output.now.items) tt)
+pub perform-requires-clause-of_line : goal.perform-requires-clause-of_line
+perform-requires-clause-of_line g c = task_of_line c.args.keys.now c.args.line.now c.as_slice.result.now c.requires (c.as_slice.ensures.value ∙ c.in-Ok.ensures.asked.commands)
 
-pub returns-in-List-clause-told : goal.returns-in-List-clause-told
-returns-in-List-clause-told g c =
-    rw c.in-List.is
-    (carried_still c.args.number c.args.keys.now (g.W.Outside.told c.args.outside.now) (g.W.Outside.script c.args.outside.now) ListSets
-    (λ w. record { world = w; output = flat_map (set_line c.args.number w.present.keys) w.present.keys.tree.rows ++ ok_line c.args.number; takings = [] })
-    (flat_map (set_line c.args.number c.args.keys.now) c.args.keys.now.tree.rows ++ ok_line c.args.number) c.push_list.result c.args.output.now.items c.push_list.new.output.items
-    (λ entries w. refl) (λ w. refl) (λ w. refl) (λ w keys. ap (λ p. flat_map (set_line c.args.number p) p.tree.rows ++ ok_line c.args.number) keys) c.push_list.ensures.text c.push_list.ensures.stops)
+pub returns-clause-told : goal.returns-clause-told
+returns-clause-told g c =
+    carried c.args.number c.args.keys.now c.perform.new.keys (g.W.Outside.told c.args.outside.now) (g.W.Outside.told c.perform.new.outside) (g.W.Outside.script c.args.outside.now) (g.W.Outside.script c.perform.new.outside)
+    c.args.line.now c.in-Ok.task.report c.as_slice.result.now c.perform.result c.args.output.now.items c.perform.new.output.items (c.as_slice.ensures.value ∙ c.in-Ok.ensures.asked.commands) c.in-Ok.ensures.asked.report c.perform.ensures.told
 
-pub returns-in-Create-clause-told : goal.returns-in-Create-clause-told
-returns-in-Create-clause-told g c =
-    rw c.in-Create.is
-    (carried c.args.number c.args.keys.now c.run_command.new.keys (g.W.Outside.told c.args.outside.now) (g.W.Outside.told c.run_command.new.outside) (g.W.Outside.script c.args.outside.now) (g.W.Outside.script c.run_command.new.outside)
-    (Create c.in-Create.name c.in-Create.opts) c.run_command.result c.create_command-command.result (command_named (λ name. commands.Create name c.in-Create.opts) (named c.in-Create.name)) c.args.output.now.items c.run_command.new.output.items
-    (λ entries w. refl) c.create_command-command.ensures c.run_command.ensures.told)
-
-pub returns-in-LoadKey-clause-told : goal.returns-in-LoadKey-clause-told
-returns-in-LoadKey-clause-told g c =
-    rw c.in-LoadKey.is
-    (carried c.args.number c.args.keys.now c.run_command-in-LoadKey.new.keys (g.W.Outside.told c.args.outside.now) (g.W.Outside.told c.run_command-in-LoadKey.new.outside) (g.W.Outside.script c.args.outside.now) (g.W.Outside.script c.run_command-in-LoadKey.new.outside)
-    (LoadKey c.in-LoadKey.name c.in-LoadKey.check_only c.in-LoadKey.place) c.run_command-in-LoadKey.result c.load_command-command.result (command_named (λ name. commands.Load name c.in-LoadKey.check_only c.in-LoadKey.place) (named c.in-LoadKey.name)) c.args.output.now.items c.run_command-in-LoadKey.new.output.items
-    (λ entries w. refl) c.load_command-command.ensures c.run_command-in-LoadKey.ensures.told)
-
-pub returns-in-UnloadKey-clause-told : goal.returns-in-UnloadKey-clause-told
-returns-in-UnloadKey-clause-told g c =
-    rw c.in-UnloadKey.is
-    (carried c.args.number c.args.keys.now c.run_command-in-UnloadKey.new.keys (g.W.Outside.told c.args.outside.now) (g.W.Outside.told c.run_command-in-UnloadKey.new.outside) (g.W.Outside.script c.args.outside.now) (g.W.Outside.script c.run_command-in-UnloadKey.new.outside)
-    (UnloadKey c.in-UnloadKey.name) c.run_command-in-UnloadKey.result c.unload_command-command.result (command_named (λ name. commands.Unload name) (named c.in-UnloadKey.name)) c.args.output.now.items c.run_command-in-UnloadKey.new.output.items
-    (λ entries w. refl) c.unload_command-command.ensures c.run_command-in-UnloadKey.ensures.told)
-
-pub returns-in-Get-clause-told : goal.returns-in-Get-clause-told
-returns-in-Get-clause-told g c =
-    rw c.in-Get.is
-    (carried c.args.number c.args.keys.now c.run_command-in-Get.new.keys (g.W.Outside.told c.args.outside.now) (g.W.Outside.told c.run_command-in-Get.new.outside) (g.W.Outside.script c.args.outside.now) (g.W.Outside.script c.run_command-in-Get.new.outside)
-    (Get c.in-Get.prop c.in-Get.name) c.run_command-in-Get.result c.get_command-command.result (command_named (λ name. commands.Get name c.in-Get.prop) (named c.in-Get.name)) c.args.output.now.items c.run_command-in-Get.new.output.items
-    (λ entries w. refl) c.get_command-command.ensures c.run_command-in-Get.ensures.told)
+pub returns-in-Err-clause-told : goal.returns-in-Err-clause-told
+returns-in-Err-clause-told g c =
+    carried_not c.args.number c.args.keys.now (g.W.Outside.told c.args.outside.now) (g.W.Outside.script c.args.outside.now) c.args.line.now c.args.output.now.items c.args.output.now.items

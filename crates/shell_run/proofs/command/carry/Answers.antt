@@ -1,5 +1,5 @@
 use Rattle.std.proofs.Common.{ℕ, ◌∙◌, Ok, Err}
-use Rattle.shell_run.proofs.CommandLemmas.{loaded_replies, loaded_state, replies_made, replies_done, same_state, unloaded_replies}
+use Rattle.shell_run.proofs.CommandLemmas.{loaded_replies, loaded_state, replies_made, same_state, unloaded_replies}
 use Rattle.shell_run.proofs.command.carry.Goals as goal
 
 pub returns-in-Err-clause-reply : goal.returns-in-Err-clause-reply

@@ -1,4 +1,4 @@
-use Rattle.std.proofs.Common.{◌≡◌, ◌∙◌, refl, ap, arith}
+use Rattle.std.proofs.Common.{◌∙◌, refl}
 use Rattle.shell_run.specs.Outer.{Outer}
 use Rattle.shell_run.specs.Script.{ToldScript}
 use Rattle.shell_run.specs.Transcript.{told_world}

@@ -1,6 +1,3 @@
-use Rattle.key_machine.specs.Plain.{no_keys}
-use Rattle.shell_run.specs.Script.{script_of}
-use Rattle.shell_run.specs.Transcript.{told_world}
 use Rattle.shell_run.proofs.RunLemmas.{words_run, words_not_run}
 use Rattle.shell_run.proofs.run.run_words.Goals as goal
 
