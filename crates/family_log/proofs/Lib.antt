@@ -1,0 +1,4 @@
+pub mod LogLemmas
+pub mod HeadLemmas
+pub mod SameLemmas
+pub mod HonestLemmas
