@@ -1,15 +1,18 @@
 -- Lemmas on the heads of a family.
-use Rattle.std.proofs.Common.{◌≡◌, ℕ, ◌+◌, ◌<◌, ◌≤◌, suc, zero, Bool, true, false, eqb, List, [], ◌∷◌, length, get_or, set, Option, Some, None, refl, ap, sym, ◌∙◌, arith}
-use Rattle.std.specs.Prelude.{◌==◌, nat_lt, if◌then◌else◌}
+use Rattle.std.proofs.Common.{◌≡◌, ℕ, ◌+◌, ◌<◌, ◌≤◌, suc, zero, Bool, true, false, eqb, List, [], ◌∷◌, ◌++◌, length, length-append, Result, Ok, Err, get_or, set, Option, Some, None, refl, ap, sym, ◌∙◌, arith}
+use Rattle.std.specs.Prelude.{◌==◌, nat_lt, nat_le, is_none, if◌then◌else◌}
 use Rattle.std.specs.List.{All, position, position_or_len}
 use Rattle.std.proofs.lemmas.List.Sums.{fails_before_first}
 use Rattle.std.proofs.lemmas.Bool.Decides.{nat_tests}
 use Rattle.std.proofs.lemmas.List.Elements.{All-head, All-tail, All-cons}
+use Rattle.dataset_tree.specs.declared.refusal.Refusal.{Refusal}
+use Rattle.dataset_tree.specs.declared.refusal.Refusal.TheVariants.{NoHead, Full}
+use Rattle.family_log.specs.declared.entry.LogEntry.{LogEntry}
 use Rattle.family_log.specs.declared.table.Table.{Table}
 use Rattle.family_log.specs.declared.head.Head.{Head}
 use Rattle.family_log.specs.Tables.{IsTable}
-use Rattle.family_log.specs.Model.{IsHead}
-use Rattle.family_log.specs.Calls.{with_table}
+use Rattle.family_log.specs.Model.{FamilyState, IsHead, IsKept, head_of}
+use Rattle.family_log.specs.Calls.{new_place, with_table}
 
 -- a head with this table, whose guid is 0
 abbrev pub given : Table → Head → Head
@@ -38,6 +41,9 @@ IsHead-given record_size table head is kept = record {
   paired = kept.paired;
 }
 
+err_is_ok : {X Y : Type 0} {x : X} {y : Y} → Err y ≡ Ok x → ⊥
+err_is_ok e = cc
+
 -- a test is split on
 by_space : {P : Type 0} (b : Bool) → (b ≡ true → P) → (b ≡ false → P) → P
 by_space true yes_case no_case = yes_case refl
@@ -63,3 +69,29 @@ IsHead-with_table record_size id table (head ∷ heads) is all =
     by_space (head.id == id)
     (λ found. rw found (All-cons (IsHead record_size) (given table head) heads (IsHead-given record_size table head is first) rest))
     (λ apart. rw apart (All-cons (IsHead record_size) head (with_table id table heads) first (IsHead-with_table record_size id table heads is rest)))
+
+pub with_table-missed : (id : ℕ) (table : Table) (heads : List Head) → position (λ (head : Head). head.id == id) heads ≡ None
+    → heads ≡ with_table id table heads
+with_table-missed id table [] missed = refl
+with_table-missed id table (head ∷ heads) missed =
+    with_table-none id table (head ∷ heads) head (all_fail (λ (other : Head). other.id == id) (head ∷ heads) head missed)
+
+-- what the type keeps is kept by a change of a head
+pub IsKept-changed : (block room id : ℕ) (heads : List Head) (log : List LogEntry) (table : Table) (entry : LogEntry) → IsKept block room heads log
+    → IsTable block table → length log < room → IsKept block room (with_table id table heads) (log ++ entry ∷ [])
+IsKept-changed block room id heads log table entry kept is left = record {
+  record_size = kept.record_size;
+  room_least = kept.room_least;
+  room_most = kept.room_most;
+  in_room = omega (arith, length-append log (entry ∷ []));
+  tables = IsHead-with_table block id table heads is kept.tables;
+}
+
+-- a family that has a place for a new entry has room for it
+pub room_left : (family : FamilyState) (head place : ℕ) → new_place family head ≡ Ok place → length family.log < family.room
+room_left family head place is =
+    by_space (is_none (head_of head family.heads))
+    (λ none. let refused : new_place family head ≡ Err (NoHead head) = rw none refl in absurd (err_is_ok (sym refused ∙ is)))
+    (λ there. by_space (nat_le family.room (length family.log))
+    (λ full. let refused : new_place family head ≡ Err (Full family.room) = rw (there, full) refl in absurd (err_is_ok (sym refused ∙ is)))
+    (λ left. grind (arith, nat_tests)))

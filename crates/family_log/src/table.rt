@@ -62,10 +62,13 @@ impl Table {
     pub(crate) fn same(&self, other: &Table) -> bool
         ensures { IsTrue result ↔ (self.now ≡ other.now) }
     {
-        self.block == other.block
-            && self.rows.as_slice() == other.rows.as_slice()
-            && self.portable == other.portable
-            && self.guid == other.guid
+        if self.block != other.block || self.guid != other.guid {
+            return false;
+        }
+        if self.portable != other.portable {
+            return false;
+        }
+        same_rows(self.rows.as_slice(), other.rows.as_slice())
     }
 
     /// An equal table.
@@ -80,4 +83,12 @@ impl Table {
             guid: self.guid,
         })
     }
+}
+
+ghost use Rattle.std.specs.Prelude.{◌↔◌, IsTrue};
+
+fn same_rows(a: &[TableRow], b: &[TableRow]) -> bool
+    ensures { IsTrue result ↔ (a.now ≡ b.now) }
+{
+    a == b
 }
