@@ -3,4 +3,4 @@ use Rattle.family_log.proofs.SameLemmas.{row_decides}
 use Rattle.family_log.proofs.table.same_rows.Goals as goal
 
 pub returns : goal.returns
-returns c = let e = c.eq.ensures in ?
+returns c = slice_eq-Decides row_decides c.args.a.now c.args.b.now c.eq.result c.eq.ensures
