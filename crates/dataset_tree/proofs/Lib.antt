@@ -1,3 +1,5 @@
 pub mod NameLemmas
 pub mod TreeLemmas
 pub mod RecordLemmas
+pub mod SnapNameLemmas
+pub mod RemoveLemmas

@@ -1,13 +1,13 @@
 -- The tree of datasets, as the list of its rows.
-use Rattle.std.specs.Prelude.{Bool, ◌≡◌, ◌≢◌, ◌⊎◌, ℕ, ◌+◌, ◌<◌, ◌≤◌, nat_lt, ◌==◌, List, [], ◌∷◌, ◌++◌, length, if◌then◌else◌, is_some, unwrap_or, true, Result, Ok, Err}
+use Rattle.std.specs.Prelude.{Bool, ◌≡◌, ◌≢◌, ◌⊎◌, ℕ, ◌+◌, ◌<◌, ◌≤◌, nat_lt, ◌==◌, ◌||◌, not, List, [], ◌∷◌, ◌++◌, length, if◌then◌else◌, is_some, unwrap_or, true, Result, Ok, Err}
 use Rattle.std.specs.declared.option.Option.{Option}
 use Rattle.std.specs.declared.option.Option.TheVariants.{Some, None}
 use Rattle.std.specs.Option.{option_map}
-use Rattle.std.specs.List.{All, AllPairs, find, list_any}
+use Rattle.std.specs.List.{All, AllPairs, find, filter, list_any}
 use Rattle.std.specs.Str.{bytes_eq}
 use Rattle.dataset_tree.specs.declared.kinds.Kind.{Kind}
 use Rattle.dataset_tree.specs.declared.refusal.Refusal.{Refusal}
-use Rattle.dataset_tree.specs.declared.refusal.Refusal.TheVariants.{Exists, NoParent, Full}
+use Rattle.dataset_tree.specs.declared.refusal.Refusal.TheVariants.{Exists, NoParent, Full, HasChildren}
 use Rattle.dataset_tree.specs.declared.tree.Row.{Row}
 use Rattle.dataset_tree.specs.SetName.{parent_name}
 
@@ -30,6 +30,10 @@ id_named name rows = option_map (λ row. row.id) (row_named name rows)
 abbrev pub is_parent : ℕ → List Row → Bool
 is_parent id rows = list_any (λ row. row.parent == id) rows
 
+-- whether others need a dataset: it is the parent of one, or one was cloned from it
+abbrev pub is_needed : ℕ → List Row → Bool
+is_needed id rows = list_any (λ row. row.parent == id || row.origin == id) rows
+
 -- the id of the dataset that a new one of this name stands below: 0 for a name of one component, none where it isn't there
 abbrev pub parent_in : List Row → Option (List ℕ) → Option ℕ
 parent_in rows None = Some 0
@@ -49,6 +53,14 @@ with_row t name kind origin = record {
   rows = t.rows ++ record { id = t.last + 1; parent = unwrap_or (parent_in t.rows (parent_name name)) 0; name = name; kind = kind; origin = origin } ∷ [];
   last = t.last + 1;
 }
+
+-- the tree without a dataset: the others stay in order, and the last id ever given stays
+abbrev pub without_row : Datasets → ℕ → Datasets
+without_row t id = record { rows = filter (λ row. not (row.id == id)) t.rows; last = t.last }
+
+-- why a dataset can't be taken out
+abbrev pub removal : Datasets → ℕ → Result Unit Refusal
+removal t id = if is_needed id t.rows then Err HasChildren else Ok tt
 
 abbrev pub no_datasets : Datasets
 no_datasets = record { rows = []; last = 0 }

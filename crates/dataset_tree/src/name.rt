@@ -3,6 +3,8 @@ ghost use Rattle.std.specs.Prelude.{◌≡◌, ℕ, List, ◌∷◌, ◌++◌, f
 ghost use Rattle.std.specs.List.{list_any};
 ghost use Rattle.std.specs.Option.{option_copied};
 ghost use Rattle.dataset_tree.specs.Refusal.{Gives};
+ghost use Rattle.dataset_tree.specs.declared.refusal.Refusal.TheVariants.{BadName};
+ghost use Rattle.dataset_tree.specs.declared.refusal.Stop.TheVariants.{Refused};
 ghost use Rattle.dataset_tree.specs.SetName.{name_fault, parent_name, named, is_name_byte, is_slash, slash};
 
 use crate::refusal::{NoMemory, Refusal, Stop};
@@ -41,7 +43,7 @@ impl SetName {
         ensures { Gives result (named bytes.now) }
     {
         if let Some(at) = first_fault(bytes) {
-            return Err(Stop::Refused(Refusal::BadName { at: at as u64 }));
+            return Err(bad_name(at));
         }
         let bytes = Vec::from_slice(alloc, bytes)?;
         Ok(SetName { bytes })
@@ -71,6 +73,13 @@ impl SetName {
     }
 }
 
+/// The refusal of a text whose byte at this offset can't stand there.
+pub(crate) fn bad_name(at: usize) -> Stop
+    ensures { result ≡ Refused (BadName at) }
+{
+    Stop::Refused(Refusal::BadName { at: at as u64 })
+}
+
 /// Where the text isn't the name of a dataset.
 fn first_fault(text: &[u8]) -> Option<usize>
     ensures { result ≡ name_fault text.now }
@@ -96,7 +105,7 @@ fn first_fault(text: &[u8]) -> Option<usize>
     if in_component { None } else { Some(text.len()) }
 }
 
-fn is_name_byte(byte: u8) -> bool
+pub(crate) fn is_name_byte(byte: u8) -> bool
     ensures { result ≡ is_name_byte byte }
 {
     byte.is_ascii_alphanumeric() || matches!(byte, b'_' | b'-' | b'.' | b':')

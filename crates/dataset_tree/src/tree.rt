@@ -59,7 +59,7 @@ impl Model for Tree {
 
 impl Tree {
     ghost use Rattle.dataset_tree.specs.Refusal.{Gives};
-    ghost use Rattle.dataset_tree.specs.Tree.{no_datasets, new_id, with_row, IsDatasetOrNone, IsTree, id_named, row_of, is_parent, parent_in};
+    ghost use Rattle.dataset_tree.specs.Tree.{no_datasets, new_id, with_row, IsDatasetOrNone, IsTree, id_named, row_of, is_parent, parent_in, removal, without_row};
     ghost use Rattle.dataset_tree.specs.SetName.{parent_name};
 
     /// A tree without datasets.
@@ -111,6 +111,24 @@ impl Tree {
         Ok(id)
     }
 
+    /// Takes out a dataset. The others stay in order, and its id is never given again.
+    ///
+    /// # Errors
+    /// `HasChildren` exactly where it is the parent of a dataset or a dataset was cloned from it. Then the tree is as
+    /// before.
+    pub fn remove(&mut self, id: u32) -> Result<(), Refusal>
+        requires { is_some (row_of id self.old.rows) ≡ true }
+        ensures reply { result ≡ removal self.old id }
+        ensures removed { OnOk result (self.new ≡ without_row self.old id) }
+        ensures refused { OnErr result (self.new ≡ self.old) }
+    {
+        if is_needed_in(self.rows.as_slice(), id) {
+            return Err(Refusal::HasChildren);
+        }
+        remove_row(&mut self.rows, id);
+        Ok(())
+    }
+
     /// The id of the dataset of this name.
     pub fn find(&self, name: &SetName) -> Option<u32>
         ensures { result ≡ id_named name.now self.now.rows }
@@ -159,11 +177,11 @@ impl Tree {
     }
 }
 
-ghost use Rattle.std.specs.Prelude.{◌≤◌, Some, length};
-ghost use Rattle.std.specs.List.{All, AllPairs, AllWithin};
+ghost use Rattle.std.specs.Prelude.{◌≤◌, ◌==◌, not, is_some, true, Some, length};
+ghost use Rattle.std.specs.List.{All, AllPairs, AllWithin, filter};
 ghost use Rattle.std.specs.Option.{option_map};
 ghost use Rattle.dataset_tree.specs.SetName.{parent_name};
-ghost use Rattle.dataset_tree.specs.Tree.{Datasets, IsTree, row_named, id_named as id_by_name, row_of as row_by_id, is_parent as is_a_parent};
+ghost use Rattle.dataset_tree.specs.Tree.{Datasets, IsTree, row_named, id_named as id_by_name, row_of as row_by_id, is_parent as is_a_parent, is_needed};
 
 fn id_in(rows: &[Row], name: &[u8]) -> Option<u32>
     ensures { result ≡ id_by_name name.now rows.now }
@@ -198,6 +216,19 @@ fn is_parent_in(rows: &[Row], id: u32) -> bool
     ensures { result ≡ is_a_parent id rows.now }
 {
     rows.iter().any(|row| row.parent == id)
+}
+
+fn is_needed_in(rows: &[Row], id: u32) -> bool
+    ensures { result ≡ is_needed id rows.now }
+{
+    rows.iter().any(|row| row.parent == id || row.origin == id)
+}
+
+/// Takes out the row of this id, if one is there.
+fn remove_row(rows: &mut Vec<Row>, id: u32)
+    ensures { rows.new.items ≡ filter (λ row. not (row.id == id)) rows.old.items }
+{
+    rows.retain(|row| row.id != id);
 }
 
 /// In a tree each dataset is found by its name, and by its id, and its parent has the name that is its own without the
