@@ -3,9 +3,8 @@ ghost use Rattle.std.specs.Prelude.{◌≡◌, IfOk};
 ghost use Rattle.family_log.specs.Noted.{noted};
 
 use crate::listed::Listed;
-use crate::snap_part::SnapPart;
 use crate::table::Table;
-use dataset_tree::{NoMemory, Refusal};
+use dataset_tree::{NoMemory, Refusal, SnapPart};
 use indirect_macs::BlockRef;
 
 /// A head, or a snapshot of it.

@@ -5,9 +5,9 @@ ghost use Rattle.std.specs.Option.{option_copied, option_map};
 ghost use Rattle.std.specs.Str.{bytes_eq};
 
 use crate::listed::Listed;
-use crate::snap_part::SnapPart;
+use crate::same::{Same, same_items};
 use crate::table::Table;
-use dataset_tree::NoMemory;
+use dataset_tree::{NoMemory, SnapPart};
 use std::alloc::Global;
 
 /// A dataset of a family: its table, and its snapshots in the order they were made. `parts` has their
@@ -47,8 +47,8 @@ impl Head {
     fn same_snapshots(&self, other: &Head) -> bool
         ensures { IsTrue result ↔ (snapshots_of self.now ≡ snapshots_of other.now) }
     {
-        same_parts(self.parts.as_slice(), other.parts.as_slice())
-            && same_each(self.tables.as_slice(), other.tables.as_slice())
+        same_items(self.parts.as_slice(), other.parts.as_slice())
+            && same_items(self.tables.as_slice(), other.tables.as_slice())
     }
 
     // An equal head.
@@ -156,32 +156,4 @@ pub fn same_snapshots(a: Option<&Head>, b: Option<&Head>) -> bool
         (Some(_), None) => false,
         (None, Some(_)) => false,
     }
-}
-
-fn same_parts(a: &[SnapPart], b: &[SnapPart]) -> bool
-    ensures { IsTrue result ↔ (a.now ≡ b.now) }
-{
-    if a.len() != b.len() {
-        return false;
-    }
-    'parts: for at in 0..a.len() {
-        if a[at].as_bytes() != b[at].as_bytes() {
-            return false;
-        }
-    }
-    true
-}
-
-fn same_each(a: &[Table], b: &[Table]) -> bool
-    ensures { IsTrue result ↔ (a.now ≡ b.now) }
-{
-    if a.len() != b.len() {
-        return false;
-    }
-    'tables: for at in 0..a.len() {
-        if !a[at].same(&b[at]) {
-            return false;
-        }
-    }
-    true
 }

@@ -6,7 +6,7 @@ ghost use Rattle.family_log.specs.Log.{changes_in, head_spot, is_head, is_snap, 
 ghost use Rattle.family_log.specs.Reading.{in_change, refs_of, spot_of};
 
 use crate::entry::{LogEntry, RefAt, Spot};
-use crate::snap_part::SnapPart;
+use dataset_tree::SnapPart;
 use indirect_macs::BlockRef;
 
 // A head, or a snapshot of it, of which an entry of the log has the name.

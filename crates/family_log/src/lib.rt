@@ -10,12 +10,11 @@ mod family;
 mod head;
 mod last;
 mod listed;
-mod snap_part;
+mod same;
 mod table;
 
 pub use entry::{HeadChange, LengthAt, LogEntry, ReadNote, RefAt, Spot};
 pub use family::{Family, FamilyPart};
 pub use head::Head;
 pub use listed::Listed;
-pub use snap_part::SnapPart;
 pub use table::{Table, TableRow};

@@ -1,7 +1,8 @@
 // The tables of heads and snapshots.
-ghost use Rattle.std.specs.Prelude.{◌≡◌, IfOk};
+ghost use Rattle.std.specs.Prelude.{◌≡◌, ◌↔◌, IfOk, IsTrue};
 
 use crate::listed::Listed;
+use crate::same::Same;
 use dataset_tree::NoMemory;
 use indirect_macs::ObjTree;
 use std::alloc::Global;
@@ -25,7 +26,6 @@ pub struct Table {
 }
 
 impl Table {
-    ghost use Rattle.std.specs.Prelude.{◌↔◌, IsTrue};
     ghost use Rattle.family_log.specs.Tables.{fresh_table};
 
     // The table of a fresh head: an empty directory, object 1.
@@ -58,19 +58,6 @@ impl Table {
         table
     }
 
-    // Whether the tables are the same.
-    pub(crate) fn same(&self, other: &Table) -> bool
-        ensures { IsTrue result ↔ (self.now ≡ other.now) }
-    {
-        if self.block != other.block || self.guid != other.guid {
-            return false;
-        }
-        if self.portable != other.portable {
-            return false;
-        }
-        same_rows(self.rows.as_slice(), other.rows.as_slice())
-    }
-
     /// An equal table.
     pub fn copy(&self) -> Result<Table, NoMemory>
         ensures { IfOk result (λ table. table ≡ self.now) }
@@ -85,7 +72,18 @@ impl Table {
     }
 }
 
-ghost use Rattle.std.specs.Prelude.{◌↔◌, IsTrue};
+impl Same for Table {
+    fn same(&self, other: &Table) -> bool {
+        if self.block != other.block || self.guid != other.guid {
+            return false;
+        }
+        if self.portable != other.portable {
+            return false;
+        }
+        same_rows(self.rows.as_slice(), other.rows.as_slice())
+    }
+}
+
 
 fn same_rows(a: &[TableRow], b: &[TableRow]) -> bool
     ensures { IsTrue result ↔ (a.now ≡ b.now) }
