@@ -39,6 +39,7 @@ IsHead-given record_size table head is kept = record {
   no_guid = refl;
   snapshots = kept.snapshots;
   paired = kept.paired;
+  apart = kept.apart;
 }
 
 err_is_ok : {X Y : Type 0} {x : X} {y : Y} → Err y ≡ Ok x → ⊥
@@ -76,6 +77,18 @@ with_table-missed id table [] missed = refl
 with_table-missed id table (head ∷ heads) missed =
     with_table-none id table (head ∷ heads) head (all_fail (λ (other : Head). other.id == id) (head ∷ heads) head missed)
 
+-- a new table changes no id
+with_table-length : (id : ℕ) (table : Table) (heads : List Head) → length (with_table id table heads) ≡ length heads
+with_table-length id table [] = refl
+with_table-length id table (head ∷ heads) =
+    by_space (head.id == id) (λ found. rw found refl) (λ apart. rw apart (ap (λ n. suc n) (with_table-length id table heads)))
+
+with_table-id : (id : ℕ) (table : Table) (heads : List Head) (k : ℕ) (d : Head) → (get_or (with_table id table heads) k d).id ≡ (get_or heads k d).id
+with_table-id id table [] k d = refl
+with_table-id id table (head ∷ heads) zero d = by_space (head.id == id) (λ found. rw found refl) (λ apart. rw apart refl)
+with_table-id id table (head ∷ heads) (suc k) d =
+    by_space (head.id == id) (λ found. rw found refl) (λ apart. rw apart (with_table-id id table heads k d))
+
 -- what the type keeps is kept by a change of a head
 pub IsKept-changed : (block room id : ℕ) (heads : List Head) (log : List LogEntry) (table : Table) (entry : LogEntry) → IsKept block room heads log
     → IsTable block table → length log < room → IsKept block room (with_table id table heads) (log ++ entry ∷ [])
@@ -85,6 +98,8 @@ IsKept-changed block room id heads log table entry kept is left = record {
   room_most = kept.room_most;
   in_room = omega (arith, length-append log (entry ∷ []));
   tables = IsHead-with_table block id table heads is kept.tables;
+  apart = λ i j d before within same. kept.apart i j d before (omega (arith, within, with_table-length id table heads))
+      (sym (with_table-id id table heads i d) ∙ same ∙ with_table-id id table heads j d);
 }
 
 -- a family that has a place for a new entry has room for it

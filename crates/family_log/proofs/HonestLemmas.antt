@@ -1,5 +1,5 @@
 -- A fresh family stands on an honest shelf.
-use Rattle.std.proofs.Common.{◌≡◌, ℕ, ◌<◌, ◌≤◌, suc, zero, Bool, true, false, ◌&&◌, eqb, List, [], ◌∷◌, length, Option, Some, None, Result, Ok, IfSome, refl, ap, sym, ◌∙◌, subst, arith, reverse}
+use Rattle.std.proofs.Common.{◌≡◌, ℕ, ◌<◌, ◌≤◌, suc, zero, Bool, true, false, ◌&&◌, eqb, List, [], ◌∷◌, ◌++◌, length, Option, Some, None, Result, Ok, IfSome, refl, ap, sym, ◌∙◌, subst, arith, reverse}
 use Rattle.std.specs.Prelude.{◌==◌, IsTrue, is_none, nat_lt, if◌then◌else◌}
 use Rattle.std.specs.List.{find}
 use Rattle.std.specs.Option.{option_flatten, option_map}
@@ -14,8 +14,12 @@ use Rattle.family_log.specs.declared.entry.LogEntry.{LogEntry}
 use Rattle.family_log.specs.declared.entry.LogEntry.TheVariants.{Make}
 use Rattle.family_log.specs.declared.head.Head.{Head}
 use Rattle.family_log.specs.Tables.{fresh_table, length_in, row_of}
-use Rattle.family_log.specs.Log.{head_spot, last_ref, last_length, newest, is_head}
+use Rattle.family_log.specs.Log.{head_spot, length_said, ref_in, last_ref, last_length, newest, is_head}
 use Rattle.family_log.specs.Model.{FamilyState, fresh_family, table_in, table_of}
+use Rattle.family_log.specs.declared.entry.ReadNote.{ReadNote}
+use Rattle.family_log.specs.Noted.{noted}
+use Rattle.family_log.specs.Calls.{with_entry}
+use Rattle.family_log.proofs.LogLemmas.{newest-noted}
 use Rattle.family_log.specs.Honest.{IsHonest, TellsTheLog, leads}
 
 by_space : {P : Type 0} (b : Bool) → (b ≡ true → P) → (b ≡ false → P) → P
@@ -51,6 +55,15 @@ fresh_tells head record_size portable spot here = record {
   refs = λ object index. fresh_leads record_size portable object index ∙ ap Ok (sym (fresh_ref head object index spot here));
 }
 
+told_still : (blocks : List (List ℕ)) (log : List LogEntry) (of_note : Spot) (what : ReadNote) (spot : Spot) (found : Option Table)
+    → IfSome found (λ table. TellsTheLog blocks log spot table)
+    → IfSome found (λ table. TellsTheLog blocks (log ++ noted of_note what ∷ []) spot table)
+told_still blocks log of_note what spot None tells = tt
+told_still blocks log of_note what spot (Some table) tells = record {
+  lengths = λ object. tells.lengths object ∙ ap option_flatten (sym (newest-noted (length_said object) spot of_note what log));
+  refs = λ object index. tells.refs object index ∙ ap Ok (ap option_flatten (sym (newest-noted (ref_in object index) spot of_note what log)));
+}
+
 -- a fresh head, found or not
 fresh_spot : (head record_size : ℕ) (portable : List ℕ) (of_head : ℕ) (snap : Option (List ℕ))
     → let spot : Spot = record { head = of_head; snap = snap } in
@@ -83,3 +96,12 @@ pub fresh_is_honest : (tells : Bool) (guid block : ℕ) (salts : SaltState) (roo
 fresh_is_honest true guid block salts room head portable family is told =
     subst IsHonest (sym is) (fresh_family-is_honest guid block salts room head portable)
 fresh_is_honest false guid block salts room head portable family is told = absurd (false_is_true told)
+
+-- a note keeps what heads and snapshots have
+pub IsHonest-noted : (family : FamilyState) (spot : Spot) (what : ReadNote) → IsHonest family → IsHonest (with_entry (noted spot what) family)
+IsHonest-noted family of_note what honest = record {
+  blocks = honest.blocks;
+  placed = honest.placed;
+  held = honest.held;
+  spots = λ spot. told_still honest.blocks family.log of_note what spot (table_of spot family.heads) (honest.spots spot);
+}

@@ -1,19 +1,29 @@
 -- Lemmas on what the log tells.
-use Rattle.std.proofs.Common.{◌≡◌, ℕ, ◌+◌, ◌-◌, ◌<◌, ◌≤◌, zero, suc, Bool, true, false, ◌&&◌, eqb, List, [], ◌∷◌, ◌++◌, length, get_or, take, Option, Some, None, refl, ap, sym, ◌∙◌, arith, reverse, add-one}
+use Rattle.std.proofs.Common.{◌≡◌, ℕ, ◌+◌, ◌-◌, ◌<◌, ◌≤◌, zero, suc, Bool, true, false, ◌&&◌, eqb, List, [], ◌∷◌, ◌++◌, length, get_or, take, Option, Some, None, refl, ap, sym, ◌∙◌, arith, reverse, append_assoc}
 use Rattle.std.specs.Prelude.{◌==◌, if◌then◌else◌}
-use Rattle.std.specs.List.{find}
+use Rattle.std.specs.List.{All, find}
+use Rattle.std.proofs.lemmas.List.Elements.{All-head, All-tail}
+use Rattle.std.proofs.lemmas.Bool.Decides.{Decides-eqb}
+use Rattle.std.proofs.lemmas.Slice.Eq.{bytes_eq-Decides}
 use Rattle.std.specs.Option.{option_and_then, option_flatten, option_map, option_or}
-use Rattle.std.proofs.lemmas.List.{reverse-append, take_all}
+use Rattle.std.proofs.lemmas.List.{reverse-append, append-nil}
 use Rattle.std.proofs.Math.Seq.{take-suc}
 use Rattle.indirect_macs.specs.declared.refs.BlockRef.{BlockRef}
 use Rattle.family_log.specs.declared.entry.RefAt.{RefAt}
 use Rattle.family_log.specs.declared.entry.Spot.{Spot}
 use Rattle.family_log.specs.declared.entry.LogEntry.{LogEntry}
+use Rattle.family_log.specs.declared.entry.LogEntry.TheVariants.{Make, Write, Cut, Remove, Receive, Snapshot, Clone, Read, Refused}
+use Rattle.family_log.specs.declared.entry.ReadNote.{ReadNote}
+use Rattle.family_log.specs.declared.entry.ReadNote.TheVariants as notes
+use Rattle.family_log.specs.Noted.{noted}
 use Rattle.family_log.specs.Reading.{refs_of}
-use Rattle.family_log.specs.Log.{Changes, changes_in, head_spot, is_head, newest, ref_in, said, stood, last_ref}
+use Rattle.family_log.specs.Log.{Changes, Passes, changes_in, head_spot, snap_spot, is_head, is_snap, newest, ref_in, said, stood, last_ref}
 
 abbrev pub refs_read : ℕ → List RefAt → ℕ × List RefAt
 refs_read head refs = (head, refs)
+
+none_is_some : {X : Type 0} {x : X} → None ≡ Some x → ⊥
+none_is_some e = cc
 
 -- what changes say that are read as a head and references
 said_among : (spot : Spot) (object index head : ℕ) (refs : List RefAt) (found : Option Changes)
@@ -62,3 +72,82 @@ pub newest-start : {X : Type 0} (find_in : Changes → Option X) (spot : Spot) (
 unfolding newest
 newest-start find_in spot log zero start = refl
 newest-start find_in spot log (suc n) start = absurd (omega arith)
+
+-- entries that pass change nothing
+pub newest-passed : {X : Type 0} (find_in : Changes → Option X) (spot : Spot) (front after : List LogEntry) → All (Passes find_in spot) after
+    → newest find_in spot (reverse (front ++ after)) ≡ newest find_in spot (reverse front)
+newest-passed find_in spot front [] pass = ap (λ log. newest find_in spot (reverse log)) (append-nil front)
+newest-passed find_in spot front (entry ∷ after) pass =
+    let first = All-head (Passes find_in spot) entry after pass in
+    let rest = All-tail (Passes find_in spot) entry after pass in
+    ap (λ log. newest find_in spot (reverse log)) (sym (append_assoc front (entry ∷ []) after))
+    ∙ newest-passed find_in spot (front ++ entry ∷ []) after rest
+    ∙ newest-pushed find_in spot front entry
+    ∙ rw (first.0, first.1) refl
+
+-- the newest of a log behind one entry of which all pass
+pub newest-at : {X : Type 0} (find_in : Changes → Option X) (spot : Spot) (before after : List LogEntry) (entry : LogEntry) → All (Passes find_in spot) after
+    → newest find_in spot (reverse (before ++ entry ∷ after))
+    ≡ option_or (said find_in spot entry) (newest find_in (stood spot entry) (reverse before))
+newest-at find_in spot before after entry pass =
+    ap (λ log. newest find_in spot (reverse log)) (sym (append_assoc before (entry ∷ []) after))
+    ∙ newest-passed find_in spot (before ++ entry ∷ []) after pass
+    ∙ newest-pushed find_in spot before entry
+
+pub newest-said : {X : Type 0} (find_in : Changes → Option (Option X)) (spot : Spot) (before after : List LogEntry) (entry : LogEntry) (to : Option X)
+    → said find_in spot entry ≡ Some to → All (Passes find_in spot) after
+    → option_flatten (newest find_in spot (reverse (before ++ entry ∷ after))) ≡ to
+newest-said find_in spot before after entry to is pass =
+    let newest_is : newest find_in spot (reverse (before ++ entry ∷ after)) ≡ Some to = newest-at find_in spot before after entry pass ∙ rw is refl in
+    ap option_flatten newest_is
+
+pub newest-snapshot : {X : Type 0} (find_in : Changes → Option X) (head : ℕ) (part : List ℕ) (before after : List LogEntry)
+    → All (Passes find_in (snap_spot head part)) after
+    → newest find_in (snap_spot head part) (reverse (before ++ Snapshot head part ∷ after)) ≡ newest find_in (head_spot head) (reverse before)
+newest-snapshot find_in head part before after pass =
+    let here : is_snap head part (snap_spot head part) ≡ true = rw ((Decides-eqb head head).1 refl, (bytes_eq-Decides part part).1 refl) refl in
+    newest-at find_in (snap_spot head part) before after (Snapshot head part) pass ∙ rw here refl
+
+pub newest-clone : {X : Type 0} (find_in : Changes → Option X) (from : Spot) (head : ℕ) (before after : List LogEntry)
+    → All (Passes find_in (head_spot head)) after
+    → newest find_in (head_spot head) (reverse (before ++ Clone from head ∷ after)) ≡ newest find_in from (reverse before)
+newest-clone find_in from head before after pass =
+    let here : is_head head (head_spot head) ≡ true = rw ((Decides-eqb head head).1 refl) refl in
+    newest-at find_in (head_spot head) before after (Clone from head) pass ∙ rw here refl
+
+-- a change of another head says nothing of a spot
+said_nothing : {X : Type 0} (find_in : Changes → Option X) (spot : Spot) (found : Option Changes) (changes : Changes) → found ≡ Some changes
+    → is_head changes.head spot ≡ false
+    → option_and_then (λ changes. if is_head changes.head spot then find_in changes else None) found ≡ None
+said_nothing find_in spot found changes is other = rw (is, other) refl
+
+-- and doesn't make it
+changes_stay : (spot : Spot) (entry : LogEntry) (changes : Changes) → changes_in entry ≡ Some changes → stood spot entry ≡ spot
+changes_stay spot (Make head lengths refs) changes is = refl
+changes_stay spot (Write head lengths refs) changes is = refl
+changes_stay spot (Cut head lengths refs) changes is = refl
+changes_stay spot (Remove head lengths refs) changes is = refl
+changes_stay spot (Receive head lengths refs) changes is = refl
+changes_stay spot (Snapshot head part) changes is = absurd (none_is_some is)
+changes_stay spot (Clone from head) changes is = absurd (none_is_some is)
+changes_stay spot (Read other) changes is = refl
+changes_stay spot (Refused other why draws puts) changes is = refl
+
+pub newest-other : {X : Type 0} (find_in : Changes → Option X) (spot : Spot) (log : List LogEntry) (entry : LogEntry) (changes : Changes)
+    → changes_in entry ≡ Some changes → is_head changes.head spot ≡ false
+    → newest find_in spot (reverse (log ++ entry ∷ [])) ≡ newest find_in spot (reverse log)
+newest-other find_in spot log entry changes is other =
+    newest-pushed find_in spot log entry
+    ∙ rw (said_nothing find_in spot (changes_in entry) changes is other, changes_stay spot entry changes is) refl
+
+-- nothing is said by entries that all pass
+pub newest-none : {X : Type 0} (find_in : Changes → Option X) (spot : Spot) (log : List LogEntry) → All (Passes find_in spot) log
+    → newest find_in spot (reverse log) ≡ None
+unfolding newest
+newest-none find_in spot log pass = newest-passed find_in spot [] log pass
+
+-- a note changes nothing of what the log tells
+pub newest-noted : {X : Type 0} (find_in : Changes → Option X) (spot of_note : Spot) (what : ReadNote) (log : List LogEntry)
+    → newest find_in spot (reverse (log ++ noted of_note what ∷ [])) ≡ newest find_in spot (reverse log)
+newest-noted find_in spot of_note notes.Read log = newest-pushed find_in spot log (Read of_note)
+newest-noted find_in spot of_note (notes.Refused why draws puts) log = newest-pushed find_in spot log (Refused of_note why draws puts)

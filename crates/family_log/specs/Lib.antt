@@ -1,5 +1,6 @@
 pub mod Tables
 pub mod Log
+pub mod LogSample
 pub mod Noted
 pub mod Reading
 pub mod Model

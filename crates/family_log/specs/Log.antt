@@ -1,5 +1,5 @@
 -- What heads and snapshots hold, by the log alone: at each place of an object the newest reference, and of each object the newest length.
-use Rattle.std.specs.Prelude.{ℕ, ◌==◌, ◌&&◌, Bool, if◌then◌else◌, List, [], ◌∷◌, reverse, Option, Some, None, is_none}
+use Rattle.std.specs.Prelude.{ℕ, ◌≡◌, ◌==◌, ◌&&◌, Bool, if◌then◌else◌, List, [], ◌∷◌, reverse, Option, Some, None, is_none}
 use Rattle.std.specs.List.{find}
 use Rattle.std.specs.Option.{option_and_then, option_flatten, option_map, option_or, option_eq}
 use Rattle.std.specs.Str.{bytes_eq}
@@ -59,6 +59,10 @@ stood spot (Remove head lengths refs) = spot
 stood spot (Receive head lengths refs) = spot
 stood spot (Read other) = spot
 stood spot (Refused other why draws puts) = spot
+
+-- an entry says nothing, and doesn't make the spot
+abbrev pub Passes : {X : Type 0} → (Changes → Option X) → Spot → LogEntry → Type 0
+Passes find_in spot entry = (said find_in spot entry ≡ None) × (stood spot entry ≡ spot)
 
 -- the newest that is said of a spot by entries, of which the newest stands first
 unfoldable pub newest : {X : Type 0} → (Changes → Option X) → Spot → List LogEntry → Option X

@@ -1,6 +1,6 @@
 -- What contracts see of a family, and what its type keeps.
-use Rattle.std.specs.Prelude.{ℕ, ◌≡◌, ◌==◌, ◌≤◌, Bool, if◌then◌else◌, List, [], ◌∷◌, ◌++◌, length, Option, Some, None}
-use Rattle.std.specs.List.{All, find, position, slice_get}
+use Rattle.std.specs.Prelude.{ℕ, ◌≡◌, ◌≢◌, ◌==◌, ◌≤◌, Bool, if◌then◌else◌, List, [], ◌∷◌, ◌++◌, length, Option, Some, None}
+use Rattle.std.specs.List.{All, AllPairs, find, position, slice_get}
 use Rattle.std.specs.Option.{option_and_then, option_map}
 use Rattle.std.specs.Str.{bytes_eq}
 use Rattle.salt_rotation.specs.SaltState.{SaltState}
@@ -39,20 +39,22 @@ table_in (Some part) head = snap_table part head
 abbrev pub table_of : Spot → List Head → Option Table
 table_of spot heads = option_and_then (λ head. table_in spot.snap head) (head_of spot.head heads)
 
--- the tables of a head have this record size and their form; its own has no guid, and each snapshot has one table
+-- the tables of a head have this record size and their form; its own has no guid; each snapshot has one table, and no two have one name
 pub record IsHead (record_size : ℕ) (head : Head) : Type 0 where
   pub table : IsTable record_size head.table
   pub no_guid : head.table.guid ≡ 0
   pub snapshots : All (IsTable record_size) head.tables
   pub paired : length head.tables ≡ length head.parts
+  pub apart : AllPairs (λ earlier later. earlier ≢ later) head.parts
 
--- what the type keeps, whatever a borrower makes of salts and shelf
+-- what the type keeps, no two heads of one dataset among it, whatever a borrower makes of salts and shelf
 pub record IsKept (block room : ℕ) (heads : List Head) (log : List LogEntry) : Type 0 where
   pub record_size : IsRecordSize block
   pub room_least : 1 ≤ room
   pub room_most : room ≤ 1048576
   pub in_room : length log ≤ room
   pub tables : All (IsHead block) heads
+  pub apart : AllPairs (λ earlier later. earlier.id ≢ later.id) heads
 
 abbrev pub IsFamily : FamilyState → Type 0
 IsFamily family = IsKept family.block family.room family.heads family.log

@@ -81,11 +81,19 @@ pub enum LogEntry {
         refs: Listed<RefAt>,
     },
     /// A snapshot of the head was made.
-    Snapshot { head: u32, part: SnapPart },
+    Snapshot {
+        head: u32,
+        part: SnapPart,
+    },
     /// The head was made of a snapshot.
-    Clone { from: Spot, head: u32 },
+    Clone {
+        from: Spot,
+        head: u32,
+    },
     /// Bytes, names or MACs were read.
-    Read { spot: Spot },
+    Read {
+        spot: Spot,
+    },
     /// A command was refused, after so many draws of salts and so many blocks that were put. The
     /// numbers are 0 where the shelf didn't fail.
     Refused {

@@ -42,13 +42,13 @@ impl<B: Shelf> Model for Family<B> {
     ghost Value = { FamilyState };
 
     ghost view = { λ f. record {
-        guid = f.guid;
-        block = f.block;
-        room = f.room;
-        heads = f.heads.items;
-        log = f.log.items;
-        salts = f.salts;
-        shelf = B.told f.shelf;
+      guid = f.guid;
+      block = f.block;
+      room = f.room;
+      heads = f.heads.items;
+      log = f.log.items;
+      salts = f.salts;
+      shelf = B.told f.shelf;
     } };
 
     ghost invariant = { λ f. IsKept f.block f.room f.heads.items f.log.items };
@@ -133,6 +133,7 @@ impl<B: Shelf> Family<B> {
     pub fn note_read(&mut self, spot: Spot, what: ReadNote) -> Result<u32, Stop>
         ensures place { Gives result (new_place self.old spot.head) }
         ensures added { OnOk result (self.new ≡ with_entry (noted spot what) self.old) }
+        ensures honest { IsHonest self.old → IsHonest self.new }
         ensures refused { OnErr result (self.new ≡ self.old) }
     {
         let place = self.new_place(spot.head)?;
@@ -251,6 +252,13 @@ impl<B: Shelf> Family<B> {
         ensures { result ≡ self.now.guid }
     {
         self.guid
+    }
+
+    /// The number of entries that the log may have.
+    pub fn room(&self) -> u32
+        ensures { result ≡ self.now.room }
+    {
+        self.room
     }
 
     /// The number of entries of the log.

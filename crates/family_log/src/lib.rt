@@ -9,6 +9,7 @@ mod entry;
 mod family;
 mod head;
 mod last;
+mod laws;
 mod listed;
 mod same;
 mod table;
@@ -16,5 +17,9 @@ mod table;
 pub use entry::{HeadChange, LengthAt, LogEntry, ReadNote, RefAt, Spot};
 pub use family::{Family, FamilyPart};
 pub use head::Head;
+pub use laws::{
+    a_sample_log_is_read_as_it_was_written, snapshots_and_clones_keep_what_they_had,
+    the_newest_entry_counts,
+};
 pub use listed::Listed;
 pub use table::{Table, TableRow};

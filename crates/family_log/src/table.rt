@@ -84,7 +84,6 @@ impl Same for Table {
     }
 }
 
-
 fn same_rows(a: &[TableRow], b: &[TableRow]) -> bool
     ensures { IsTrue result ↔ (a.now ≡ b.now) }
 {

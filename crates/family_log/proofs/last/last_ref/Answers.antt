@@ -11,9 +11,9 @@ returns-in-Some c =
     let said_in = ref_in c.args.object c.args.index in
     let older = newest said_in (stood (spot_of c.entries.spot) c.index-log-at.result) (reverse (take (c.entries.at - 1) c.args.log.now)) in
     let found : newest said_in (head_spot c.args.head) (reverse c.args.log.now) ≡ Some c.in-Some.to =
-        sym c.entries.invariant.1
-        ∙ newest-step said_in (spot_of c.entries.spot) c.args.log.now c.entries.at c.index-log-at.result c.entries-test.true c.entries.invariant.0 c.index-log-at.is
-        ∙ ap (λ (said_now : Option (Option BlockRef)). option_or said_now older) (sym c.said_of.ensures ∙ c.in-Some.is) in
+    sym c.entries.invariant.1
+    ∙ newest-step said_in (spot_of c.entries.spot) c.args.log.now c.entries.at c.index-log-at.result c.entries-test.true c.entries.invariant.0 c.index-log-at.is
+    ∙ ap (λ (said_now : Option (Option BlockRef)). option_or said_now older) (sym c.said_of.ensures ∙ c.in-Some.is) in
     sym (ap option_flatten found)
 
 pub entries-preserved : goal.entries-preserved
@@ -22,7 +22,7 @@ entries-preserved c =
     let before = reverse (take (c.entries.at - 1) c.args.log.now) in
     let older = newest said_in (stood (spot_of c.entries.spot) c.index-log-at.result) before in
     let step = newest-step said_in (spot_of c.entries.spot) c.args.log.now c.entries.at c.index-log-at.result c.entries-test.true c.entries.invariant.0 c.index-log-at.is
-        ∙ ap (λ (said_now : Option (Option BlockRef)). option_or said_now older) (sym c.said_of.ensures ∙ c.in_default.is) in
+    ∙ ap (λ (said_now : Option (Option BlockRef)). option_or said_now older) (sym c.said_of.ensures ∙ c.in_default.is) in
     (omega (arith, c.entries.invariant.0), ap (λ spot. newest said_in spot before) c.stood-spot.ensures ∙ sym step ∙ c.entries.invariant.1)
 
 pub returns : goal.returns

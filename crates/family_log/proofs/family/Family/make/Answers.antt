@@ -15,5 +15,5 @@ returns-clause-honest g c =
       shelf = g.B.Shelf.told c.in_ok-shelf.shelf;
     } in
     let is : family ≡ fresh_family g.B.Shelf.tells c.args.guid c.args.block (record { seed = c.args.seed; limit = c.args.limit; made = 0 }) c.args.room c.args.head c.args.portable =
-        rw (c.in_ok-heads.ensures, c.in_ok-fresh.ensures, c.in_ok-log.ensures, c.new.ensures, c.in_ok-shelf.ensures.empty) refl in
+    rw (c.in_ok-heads.ensures, c.in_ok-fresh.ensures, c.in_ok-log.ensures, c.new.ensures, c.in_ok-shelf.ensures.empty) refl in
     fresh_is_honest g.B.Shelf.tells c.args.guid c.args.block (record { seed = c.args.seed; limit = c.args.limit; made = 0 }) c.args.room c.args.head c.args.portable family is
