@@ -23,3 +23,6 @@ pub use laws::{
 };
 pub use listed::Listed;
 pub use table::{Table, TableRow};
+
+#[cfg(test)]
+mod tests;
