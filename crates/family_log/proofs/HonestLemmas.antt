@@ -1,0 +1,107 @@
+-- A fresh family stands on an honest shelf.
+use Rattle.std.proofs.Common.{◌≡◌, ℕ, ◌<◌, ◌≤◌, suc, zero, Bool, true, false, ◌&&◌, eqb, List, [], ◌∷◌, ◌++◌, length, Option, Some, None, Result, Ok, IfSome, refl, ap, sym, ◌∙◌, subst, arith, reverse}
+use Rattle.std.specs.Prelude.{◌==◌, IsTrue, is_none, nat_lt, if◌then◌else◌}
+use Rattle.std.specs.List.{find}
+use Rattle.std.specs.Option.{option_flatten, option_map}
+use Rattle.std.proofs.lemmas.Bool.Decides.{nat_tests}
+use Rattle.indirect_macs.specs.declared.refs.BlockRef.{BlockRef}
+use Rattle.indirect_macs.specs.declared.refs.MacError.{MacError}
+use Rattle.indirect_macs.specs.Walk.{walk}
+use Rattle.salt_rotation.specs.SaltState.{SaltState}
+use Rattle.family_log.specs.declared.table.Table.{Table}
+use Rattle.family_log.specs.declared.entry.Spot.{Spot}
+use Rattle.family_log.specs.declared.entry.LogEntry.{LogEntry}
+use Rattle.family_log.specs.declared.entry.LogEntry.TheVariants.{Make}
+use Rattle.family_log.specs.declared.head.Head.{Head}
+use Rattle.family_log.specs.Tables.{fresh_table, length_in, row_of}
+use Rattle.family_log.specs.Log.{head_spot, length_said, ref_in, last_ref, last_length, newest, is_head}
+use Rattle.family_log.specs.Model.{FamilyState, fresh_family, table_in, table_of}
+use Rattle.family_log.specs.declared.entry.ReadNote.{ReadNote}
+use Rattle.family_log.specs.Noted.{noted}
+use Rattle.family_log.specs.Calls.{with_entry}
+use Rattle.family_log.proofs.LogLemmas.{newest-noted}
+use Rattle.family_log.specs.Honest.{IsHonest, TellsTheLog, leads}
+
+by_space : {P : Type 0} (b : Bool) → (b ≡ true → P) → (b ≡ false → P) → P
+by_space true yes_case no_case = yes_case refl
+by_space false yes_case no_case = no_case refl
+
+-- the log of a fresh head
+abbrev pub fresh_log : ℕ → List LogEntry
+fresh_log head = Make head (record { object = 1; length = Some 0 } ∷ []) [] ∷ []
+
+-- nothing is there but an empty directory
+fresh_length : (head object record_size : ℕ) (portable : List ℕ) (spot : Spot) → is_head head spot ≡ true
+    → length_in (fresh_table record_size portable) object ≡ last_length (fresh_log head) spot object
+unfolding newest
+fresh_length head object record_size portable spot here =
+    by_space (1 == object) (λ first. rw (here, first) refl) (λ other. rw (here, other) refl)
+
+fresh_ref : (head object index : ℕ) (spot : Spot) → is_head head spot ≡ true → last_ref (fresh_log head) spot object index ≡ None
+unfolding newest
+fresh_ref head object index spot here = rw here refl
+
+fresh_leads : (record_size : ℕ) (portable : List ℕ) (object index : ℕ) → leads [] (fresh_table record_size portable) object index ≡ Ok None
+unfolding walk
+fresh_leads record_size portable object index =
+    by_space (1 == object)
+    (λ first. by_space (nat_lt index 32) (λ within. rw (first, within) refl) (λ past. rw (first, past) refl))
+    (λ other. rw other refl)
+
+fresh_tells : (head record_size : ℕ) (portable : List ℕ) (spot : Spot) → is_head head spot ≡ true
+    → TellsTheLog [] (fresh_log head) spot (fresh_table record_size portable)
+fresh_tells head record_size portable spot here = record {
+  lengths = λ object. fresh_length head object record_size portable spot here;
+  refs = λ object index. fresh_leads record_size portable object index ∙ ap Ok (sym (fresh_ref head object index spot here));
+}
+
+told_still : (blocks : List (List ℕ)) (log : List LogEntry) (of_note : Spot) (what : ReadNote) (spot : Spot) (found : Option Table)
+    → IfSome found (λ table. TellsTheLog blocks log spot table)
+    → IfSome found (λ table. TellsTheLog blocks (log ++ noted of_note what ∷ []) spot table)
+told_still blocks log of_note what spot None tells = tt
+told_still blocks log of_note what spot (Some table) tells = record {
+  lengths = λ object. tells.lengths object ∙ ap option_flatten (sym (newest-noted (length_said object) spot of_note what log));
+  refs = λ object index. tells.refs object index ∙ ap Ok (ap option_flatten (sym (newest-noted (ref_in object index) spot of_note what log)));
+}
+
+-- a fresh head, found or not
+fresh_spot : (head record_size : ℕ) (portable : List ℕ) (of_head : ℕ) (snap : Option (List ℕ))
+    → let spot : Spot = record { head = of_head; snap = snap } in
+    IfSome (table_of spot (record { id = head; table = fresh_table record_size portable; parts = []; tables = [] } ∷ []))
+    (λ table. TellsTheLog [] (fresh_log head) spot table)
+fresh_spot head record_size portable of_head None =
+    by_space (head == of_head)
+    (λ found. let here : (of_head == head) ≡ true = grind (arith, nat_tests) in
+    rw found (fresh_tells head record_size portable (head_spot of_head) (rw here refl)))
+    (λ other. rw other tt)
+fresh_spot head record_size portable of_head (Some part) =
+    by_space (head == of_head) (λ found. rw found tt) (λ other. rw other tt)
+
+-- a fresh family stands on an honest shelf
+pub fresh_family-is_honest : (guid block : ℕ) (salts : SaltState) (room head : ℕ) (portable : List ℕ)
+    → IsHonest (fresh_family true guid block salts room head portable)
+fresh_family-is_honest guid block salts room head portable = record {
+  blocks = [];
+  placed = refl;
+  held = refl;
+  spots = λ spot. fresh_spot head block portable spot.head spot.snap;
+}
+
+false_is_true : false ≡ true → ⊥
+false_is_true e = cc
+
+-- where the shelf tells its blocks
+pub fresh_is_honest : (tells : Bool) (guid block : ℕ) (salts : SaltState) (room head : ℕ) (portable : List ℕ) (family : FamilyState)
+    → family ≡ fresh_family tells guid block salts room head portable → IsTrue tells → IsHonest family
+fresh_is_honest true guid block salts room head portable family is told =
+    subst IsHonest (sym is) (fresh_family-is_honest guid block salts room head portable)
+fresh_is_honest false guid block salts room head portable family is told = absurd (false_is_true told)
+
+-- a note keeps what heads and snapshots have
+pub IsHonest-noted : (family : FamilyState) (spot : Spot) (what : ReadNote) → IsHonest family → IsHonest (with_entry (noted spot what) family)
+IsHonest-noted family of_note what honest = record {
+  blocks = honest.blocks;
+  placed = honest.placed;
+  held = honest.held;
+  spots = λ spot. told_still honest.blocks family.log of_note what spot (table_of spot family.heads) (honest.spots spot);
+}

@@ -1,0 +1,9 @@
+pub mod Tables
+pub mod Log
+pub mod LogSample
+pub mod Noted
+pub mod Reading
+pub mod Model
+pub mod Calls
+pub mod Honest
+pub mod Lending

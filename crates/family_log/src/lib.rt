@@ -1,0 +1,28 @@
+//! Families: the heads, snapshots, salts, blocks and log of the datasets that share one master key.
+//!
+//! A family is a dataset with its snapshots and clones. Each dataset of it is a head, which has a
+//! table of its objects. The log has an entry for each change of a head, and so tells on its own
+//! what every head and snapshot holds.
+#![tactic(auto)]
+
+mod entry;
+mod family;
+mod head;
+mod last;
+mod laws;
+mod listed;
+mod same;
+mod table;
+
+pub use entry::{HeadChange, LengthAt, LogEntry, ReadNote, RefAt, Spot};
+pub use family::{Family, FamilyPart};
+pub use head::Head;
+pub use laws::{
+    a_sample_log_is_read_as_it_was_written, snapshots_and_clones_keep_what_they_had,
+    the_newest_entry_counts,
+};
+pub use listed::Listed;
+pub use table::{Table, TableRow};
+
+#[cfg(test)]
+mod tests;
