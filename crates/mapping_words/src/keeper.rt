@@ -1,6 +1,8 @@
 // What keeps the slots of mappings.
-ghost use Rattle.std.specs.Prelude.{◌≡◌, ◌≤◌, ◌<◌, ◌+◌, ◌≢◌, ℕ, Bool, true, false, length, IfSome, IfErr, OnOk, is_err, nat_lt};
-ghost use Rattle.mapping_words.specs.Told.{Told, fresh, slot_at, with_slot, opened, with_mount, closed, refused_close, mount_count, told_count};
+ghost use Rattle.std.specs.Prelude.{◌≡◌, ◌≢◌, ◌≤◌, ◌<◌, ◌+◌, ℕ, Bool, true, false, length, nat_lt};
+ghost use Rattle.std.specs.Prelude.{IfSome, IfErr, OnOk, is_err};
+ghost use Rattle.mapping_words.specs.Told.{Told, fresh, slot_at, with_slot, opened, with_mount, closed, refused_close};
+ghost use Rattle.mapping_words.specs.Told.{mount_count, told_count};
 ghost use Rattle.mapping_words.specs.Words.{count_in, IsInUse};
 ghost use Rattle.mapping_words.specs.declared.slot.Slot.{Slot as SlotParts};
 
@@ -65,7 +67,8 @@ pub trait SlotKeeper {
         ensures unmounted { OnOk result ((slot_at (told self.old) slot).is_mounted ≡ false) }
         ensures refused { IfErr result (λ found. told self.new ≡ refused_close (told self.old) slot found.word) }
         ensures found { IfErr result (λ found. IsInUse (slot_at (told self.old) slot) found.word) }
-        ensures exact { IfSome (told_count tells (slot_at (told self.old) slot)) (λ count. is_err result ≡ nat_lt 0 count) }
+        ensures exact { IfSome (told_count tells (slot_at (told self.old) slot))
+            (λ count. is_err result ≡ nat_lt 0 count) }
         ensures count { IfSome (told_count tells (slot_at (told self.old) slot))
             (λ count. IfErr result (λ found. count_in found.word ≡ count)) }
         ensures fits { fits self.new board.now };
@@ -83,7 +86,8 @@ pub trait SlotKeeper {
 /// A change of one slot leaves every other one as it was, and a slot that is opened again has the next generation and no
 /// mount: a law, which does nothing.
 pub fn calls_change_one_slot()
-    ensures here { (t : Told) (slot : ℕ) (now : SlotParts) → slot < length t.slots → slot_at (with_slot t slot now) slot ≡ now }
+    ensures here { (t : Told) (slot : ℕ) (now : SlotParts) → slot < length t.slots
+        → slot_at (with_slot t slot now) slot ≡ now }
     ensures elsewhere { (t : Told) (slot other : ℕ) (now : SlotParts) → other ≢ slot
         → slot_at (with_slot t slot now) other ≡ slot_at t other }
     ensures again { slot_at (opened (closed (with_mount (with_mount (opened (fresh 2) 1) 1 true) 1 false) 1) 1) 1
