@@ -1,12 +1,10 @@
 -- A change that leaves the directory of a fresh head empty.
-use Rattle.std.proofs.Common.{◌≡◌, ℕ, ◌<◌, ◌≤◌, Bool, true, false, List, [], ◌∷◌, ◌++◌, length, Option, Some, None, refl, arith, lit≤}
+use Rattle.std.proofs.Common.{◌≡◌, ℕ, Bool, true, false, List, [], ◌∷◌, Some, None, refl, arith, lit≤}
 use Rattle.std.specs.Prelude.{◌==◌}
 use Rattle.std.proofs.lemmas.List.Elements.{All-cons}
-use Rattle.family_log.specs.declared.table.Table.{Table}
 use Rattle.family_log.specs.declared.table.TableRow.{TableRow}
 use Rattle.family_log.specs.declared.entry.RefAt.{RefAt}
 use Rattle.family_log.specs.declared.entry.HeadChange.{HeadChange}
-use Rattle.family_log.specs.declared.entry.LogEntry.{LogEntry}
 use Rattle.family_log.specs.declared.entry.LogEntry.TheVariants.{Make, Write}
 use Rattle.family_log.specs.Tables.{IsRow, IsTable, fresh_table, length_in}
 use Rattle.family_log.specs.Log.{head_spot, last_length, newest}

@@ -1,21 +1,17 @@
 -- A fresh family stands on an honest shelf.
-use Rattle.std.proofs.Common.{◌≡◌, ℕ, ◌<◌, ◌≤◌, suc, zero, Bool, true, false, ◌&&◌, eqb, List, [], ◌∷◌, ◌++◌, length, Option, Some, None, Result, Ok, IfSome, refl, ap, sym, ◌∙◌, subst, arith, reverse}
-use Rattle.std.specs.Prelude.{◌==◌, IsTrue, is_none, nat_lt, if◌then◌else◌}
-use Rattle.std.specs.List.{find}
-use Rattle.std.specs.Option.{option_flatten, option_map}
+use Rattle.std.proofs.Common.{◌≡◌, ℕ, Bool, true, false, List, [], ◌∷◌, ◌++◌, Option, Some, None, Ok, IfSome, refl, ap, sym, ◌∙◌, subst, arith}
+use Rattle.std.specs.Prelude.{◌==◌, IsTrue, nat_lt}
+use Rattle.std.specs.Option.{option_flatten}
 use Rattle.std.proofs.lemmas.Bool.Decides.{nat_tests}
-use Rattle.indirect_macs.specs.declared.refs.BlockRef.{BlockRef}
-use Rattle.indirect_macs.specs.declared.refs.MacError.{MacError}
 use Rattle.indirect_macs.specs.Walk.{walk}
 use Rattle.salt_rotation.specs.SaltState.{SaltState}
 use Rattle.family_log.specs.declared.table.Table.{Table}
 use Rattle.family_log.specs.declared.entry.Spot.{Spot}
 use Rattle.family_log.specs.declared.entry.LogEntry.{LogEntry}
 use Rattle.family_log.specs.declared.entry.LogEntry.TheVariants.{Make}
-use Rattle.family_log.specs.declared.head.Head.{Head}
-use Rattle.family_log.specs.Tables.{fresh_table, length_in, row_of}
+use Rattle.family_log.specs.Tables.{fresh_table, length_in}
 use Rattle.family_log.specs.Log.{head_spot, length_said, ref_in, last_ref, last_length, newest, is_head}
-use Rattle.family_log.specs.Model.{FamilyState, fresh_family, table_in, table_of}
+use Rattle.family_log.specs.Model.{FamilyState, fresh_family, table_of}
 use Rattle.family_log.specs.declared.entry.ReadNote.{ReadNote}
 use Rattle.family_log.specs.Noted.{noted}
 use Rattle.family_log.specs.Calls.{with_entry}

@@ -1,5 +1,5 @@
 -- Lemmas on what the log tells.
-use Rattle.std.proofs.Common.{◌≡◌, ℕ, ◌+◌, ◌-◌, ◌<◌, ◌≤◌, zero, suc, Bool, true, false, ◌&&◌, eqb, List, [], ◌∷◌, ◌++◌, length, get_or, take, Option, Some, None, refl, ap, sym, ◌∙◌, arith, reverse, append_assoc}
+use Rattle.std.proofs.Common.{◌≡◌, ℕ, ◌-◌, ◌<◌, ◌≤◌, zero, suc, true, false, ◌&&◌, List, [], ◌∷◌, ◌++◌, length, get_or, take, Option, Some, None, refl, ap, sym, ◌∙◌, arith, reverse, append_assoc}
 use Rattle.std.specs.Prelude.{◌==◌, if◌then◌else◌}
 use Rattle.std.specs.List.{All, find}
 use Rattle.std.proofs.lemmas.List.Elements.{All-head, All-tail}
@@ -8,7 +8,6 @@ use Rattle.std.proofs.lemmas.Slice.Eq.{bytes_eq-Decides}
 use Rattle.std.specs.Option.{option_and_then, option_flatten, option_map, option_or}
 use Rattle.std.proofs.lemmas.List.{reverse-append, append-nil}
 use Rattle.std.proofs.Math.Seq.{take-suc}
-use Rattle.indirect_macs.specs.declared.refs.BlockRef.{BlockRef}
 use Rattle.family_log.specs.declared.entry.RefAt.{RefAt}
 use Rattle.family_log.specs.declared.entry.Spot.{Spot}
 use Rattle.family_log.specs.declared.entry.LogEntry.{LogEntry}
@@ -17,7 +16,7 @@ use Rattle.family_log.specs.declared.entry.ReadNote.{ReadNote}
 use Rattle.family_log.specs.declared.entry.ReadNote.TheVariants as notes
 use Rattle.family_log.specs.Noted.{noted}
 use Rattle.family_log.specs.Reading.{refs_of}
-use Rattle.family_log.specs.Log.{Changes, Passes, changes_in, head_spot, snap_spot, is_head, is_snap, newest, ref_in, said, stood, last_ref}
+use Rattle.family_log.specs.Log.{Changes, Passes, changes_in, head_spot, snap_spot, is_head, is_snap, newest, ref_in, said, stood}
 
 abbrev pub refs_read : ℕ → List RefAt → ℕ × List RefAt
 refs_read head refs = (head, refs)

@@ -1,13 +1,11 @@
 -- Tests for equality decide it.
-use Rattle.std.proofs.Common.{◌≡◌, ℕ, ◌<◌, ◌≤◌, suc, zero, Bool, true, false, ◌&&◌, eqb, List, [], ◌∷◌, length, get_or, take, refl, ap, sym, ◌∙◌, arith, Option, Some, None}
+use Rattle.std.proofs.Common.{◌≡◌, Bool, true, false, ◌&&◌, eqb, refl, ap, sym, Option, Some, None}
 use Rattle.std.specs.Bool.{Decides}
 use Rattle.std.specs.Option.{option_eq}
 use Rattle.std.specs.Str.{bytes_eq}
 use Rattle.std.proofs.lemmas.Bool.Decides.{Decides-and, Decides-eqb, Decides-like}
 use Rattle.std.proofs.lemmas.Slice.Eq.{bytes_eq-Decides}
-use Rattle.std.proofs.Math.Seq.{take-suc}
 use Rattle.indirect_macs.specs.declared.refs.NodeRef.{NodeRef}
-use Rattle.indirect_macs.specs.declared.refs.ObjTree.{ObjTree}
 use Rattle.family_log.specs.declared.table.TableRow.{TableRow}
 use Rattle.family_log.specs.contracts.table.TableRowPartialEq.TheImpl.{eq-value}
 

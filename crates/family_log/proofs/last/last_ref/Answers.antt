@@ -1,4 +1,4 @@
-use Rattle.std.proofs.Common.{◌≡◌, ◌-◌, Option, Some, None, ap, sym, ◌∙◌, reverse, take, arith}
+use Rattle.std.proofs.Common.{◌≡◌, ◌-◌, Option, Some, ap, sym, ◌∙◌, reverse, take, arith}
 use Rattle.std.specs.Option.{option_flatten, option_or}
 use Rattle.indirect_macs.specs.declared.refs.BlockRef.{BlockRef}
 use Rattle.family_log.specs.Log.{head_spot, newest, ref_in, stood}

@@ -1,4 +1,4 @@
-use Rattle.std.proofs.Common.{◌≡◌, ◌∙◌, sym}
+use Rattle.std.proofs.Common.{◌∙◌, sym}
 use Rattle.family_log.specs.Reading.{spot_of}
 use Rattle.family_log.proofs.LogLemmas.{said-changed}
 use Rattle.family_log.proofs.last.said_of.Goals as goal
