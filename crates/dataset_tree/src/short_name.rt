@@ -3,8 +3,7 @@ ghost use Rattle.std.specs.Prelude.{◌≡◌, min, None, IfOk};
 ghost use Rattle.std.specs.List.{prefix_len};
 ghost use Rattle.dataset_tree.specs.Refusal.{Gives};
 ghost use Rattle.dataset_tree.specs.SetName.{is_name_byte};
-ghost use Rattle.dataset_tree.specs.ShortNames.{part_fault, part_named, file_fault, file_named};
-ghost use Rattle.dataset_tree.specs.ShortNames.{is_file_byte, short_fault_at};
+ghost use Rattle.dataset_tree.specs.ShortNames.{part_fault, part_named, file_fault, file_named, is_file_byte, short_fault_at};
 
 use crate::name::{bad_name, is_name_byte};
 use crate::refusal::{NoMemory, Stop};

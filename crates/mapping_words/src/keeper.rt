@@ -1,8 +1,6 @@
 // What keeps the slots of mappings.
-ghost use Rattle.std.specs.Prelude.{◌≡◌, ◌≢◌, ◌≤◌, ◌<◌, ◌+◌, ℕ, Bool, true, false, length, nat_lt};
-ghost use Rattle.std.specs.Prelude.{IfSome, IfErr, OnOk, is_err};
-ghost use Rattle.mapping_words.specs.Told.{Told, fresh, slot_at, with_slot, opened, with_mount, closed, refused_close};
-ghost use Rattle.mapping_words.specs.Told.{mount_count, told_count};
+ghost use Rattle.std.specs.Prelude.{◌≡◌, ◌≤◌, ◌<◌, ◌+◌, ◌≢◌, ℕ, Bool, true, false, length, IfSome, IfErr, OnOk, is_err, nat_lt};
+ghost use Rattle.mapping_words.specs.Told.{Told, fresh, slot_at, with_slot, opened, with_mount, closed, refused_close, mount_count, told_count};
 ghost use Rattle.mapping_words.specs.Words.{count_in, IsInUse};
 ghost use Rattle.mapping_words.specs.declared.slot.Slot.{Slot as SlotParts};
 
