@@ -26,16 +26,19 @@ with_entry entry family = record family { log = family.log ++ entry ∷ [] }
 abbrev pub with_table : ℕ → Table → List Head → List Head
 with_table id table [] = []
 with_table id table (head ∷ heads) =
-    if head.id == id then record head { table = record table { guid = 0 } } ∷ heads else head ∷ with_table id table heads
+    if head.id == id then record head { table = record table { guid = 0 } } ∷ heads
+    else head ∷ with_table id table heads
 
 abbrev pub with_change : ℕ → HeadChange → FamilyState → FamilyState
-with_change head change family = record (with_entry change.entry family) { heads = with_table head change.table family.heads }
+with_change head change family =
+    record (with_entry change.entry family) { heads = with_table head change.table family.heads }
 
 -- a change of this head: its table has the form, and the objects and lengths that the log with the new entry gives
 pub record IsChangeOf (family : FamilyState) (head : ℕ) (change : HeadChange) : Type 0 where
   pub of_head : changed_head change.entry ≡ Some head
   pub table : IsTable family.block change.table
-  pub lengths : (object : ℕ) → length_in change.table object ≡ last_length (family.log ++ change.entry ∷ []) (head_spot head) object
+  pub lengths : (object : ℕ) → length_in change.table object
+      ≡ last_length (family.log ++ change.entry ∷ []) (head_spot head) object
 
 -- the snapshots of a head: the parts of their names, and their tables
 abbrev pub snapshots_of : Head → List (List ℕ) × List Table
@@ -45,8 +48,10 @@ snapshots_of head = (head.parts, head.tables)
 abbrev pub SamePart : (head : ℕ) → FamilyState → FamilyState → FamilyPart → Type 0
 SamePart head a b parts.Head =
     (a.guid ≡ b.guid) × (a.block ≡ b.block)
-    × (option_map (λ found. found.table) (head_of head a.heads) ≡ option_map (λ found. found.table) (head_of head b.heads))
-SamePart head a b parts.Snapshots = option_map snapshots_of (head_of head a.heads) ≡ option_map snapshots_of (head_of head b.heads)
+    × (option_map (λ found. found.table) (head_of head a.heads)
+    ≡ option_map (λ found. found.table) (head_of head b.heads))
+SamePart head a b parts.Snapshots =
+    option_map snapshots_of (head_of head a.heads) ≡ option_map snapshots_of (head_of head b.heads)
 SamePart head a b parts.Salts = a.salts ≡ b.salts
 SamePart head a b parts.Blocks = a.shelf ≡ b.shelf
 

@@ -15,13 +15,15 @@ use Rattle.family_log.specs.Model.{FamilyState, table_of}
 -- where the tree of an object leads at a place, over the blocks of a shelf; past the tree's last place there are holes
 abbrev pub row_leads : (blocks : List (List ℕ)) → (record_size index : ℕ) → TableRow → Result (Option BlockRef) MacError
 row_leads blocks record_size index row =
-    if nat_lt index (32 ^ row.tree.levels) then walk blocks record_size index (row.tree.levels - 1) row.tree.top else Ok None
+    if nat_lt index (32 ^ row.tree.levels) then walk blocks record_size index (row.tree.levels - 1) row.tree.top
+    else Ok None
 
 -- where the trees of a table lead; an object that isn't there has holes alone
 abbrev pub leads : (blocks : List (List ℕ)) → Table → (object index : ℕ) → Result (Option BlockRef) MacError
 leads blocks table object index = option_map_or (row_leads blocks table.block index) (row_of object table) (Ok None)
 
--- the table has the objects and lengths that the log gives, and its trees have only nodes that pass, and lead at every place to what the log gives, address included
+-- the table has the objects and lengths that the log gives, and its trees have only nodes that pass, and lead
+-- at every place to what the log gives, address included
 pub record TellsTheLog (blocks : List (List ℕ)) (log : List LogEntry) (spot : Spot) (table : Table) : Type 0 where
   pub lengths : (object : ℕ) → length_in table object ≡ last_length log spot object
   pub refs : (object index : ℕ) → leads blocks table object index ≡ Ok (last_ref log spot object index)

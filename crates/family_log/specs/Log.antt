@@ -1,4 +1,5 @@
--- What heads and snapshots hold, by the log alone: at each place of an object the newest reference, and of each object the newest length.
+-- What heads and snapshots hold, by the log alone: at each place of an object the newest reference, and of
+-- each object the newest length.
 use Rattle.std.specs.Prelude.{ℕ, ◌≡◌, ◌==◌, ◌&&◌, Bool, if◌then◌else◌, List, [], ◌∷◌, reverse, Option, Some, None, is_none}
 use Rattle.std.specs.List.{find}
 use Rattle.std.specs.Option.{option_and_then, option_flatten, option_map, option_or, option_eq}
@@ -46,9 +47,11 @@ changed_head entry = option_map (λ changes. changes.head) (changes_in entry)
 
 -- what an entry says of a spot itself: something only of a head, and only in a change of that head
 abbrev pub said : {X : Type 0} → (Changes → Option X) → Spot → LogEntry → Option X
-said find_in spot entry = option_and_then (λ changes. if is_head changes.head spot then find_in changes else None) (changes_in entry)
+said find_in spot entry =
+    option_and_then (λ changes. if is_head changes.head spot then find_in changes else None) (changes_in entry)
 
--- where what a spot holds stood before an entry: a snapshot that the entry makes is its head, and a clone's head that it makes is the snapshot that it is cloned from
+-- where what a spot holds stood before an entry: a snapshot that the entry makes is its head, and a clone's
+-- head that it makes is the snapshot that it is cloned from
 abbrev pub stood : Spot → LogEntry → Spot
 stood spot (Snapshot head part) = if is_snap head part spot then head_spot head else spot
 stood spot (Clone from head) = if is_head head spot then from else spot
@@ -76,7 +79,8 @@ ref_in object index changes =
 
 -- what changes say of an object, its length or that it is gone
 abbrev pub length_said : (object : ℕ) → Changes → Option (Option ℕ)
-length_said object changes = option_map (λ change. change.length) (find (λ change. change.object == object) changes.lengths)
+length_said object changes =
+    option_map (λ change. change.length) (find (λ change. change.object == object) changes.lengths)
 
 -- the newest reference of a place, none for a hole
 abbrev pub last_ref : List LogEntry → Spot → (object index : ℕ) → Option BlockRef

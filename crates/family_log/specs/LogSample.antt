@@ -9,7 +9,8 @@ use Rattle.family_log.specs.Log.{snap_spot}
 
 -- a block of this size and address
 abbrev block_of : ℕ → ℕ → BlockRef
-block_of size address = record { size = size; addr = address; salt = replicate 8 0; iv = replicate 12 0; mac = replicate 16 0 }
+block_of size address =
+    record { size = size; addr = address; salt = replicate 8 0; iv = replicate 12 0; mac = replicate 16 0 }
 
 abbrev pub first_block : BlockRef
 first_block = block_of 5 10

@@ -12,7 +12,9 @@ use Rattle.family_log.specs.declared.entry.LogEntry.TheVariants.{Make}
 use Rattle.family_log.specs.declared.head.Head.{Head}
 use Rattle.family_log.specs.Tables.{IsRecordSize, IsTable, fresh_table}
 
--- A family: the guid of its key, its record size, how many entries its log may have, its heads, its log, its salts, and what its shelf tells. A head has its table, and its snapshots in the order they were made: the parts of their names, and at the same places the tables that they keep.
+-- A family: the guid of its key, its record size, how many entries its log may have, its heads, its log, its
+-- salts, and what its shelf tells. A head has its table, and its snapshots in the order they were made: the
+-- parts of their names, and at the same places the tables that they keep.
 pub record FamilyState : Type 0 where
   pub guid : ℕ
   pub block : ℕ
@@ -28,7 +30,8 @@ head_of id heads = find (λ head. head.id == id) heads
 
 -- the table of a snapshot of the head, none where it has none of this name
 abbrev pub snap_table : List ℕ → Head → Option Table
-snap_table part head = option_and_then (λ at. slice_get head.tables at) (position (λ other. bytes_eq other part) head.parts)
+snap_table part head =
+    option_and_then (λ at. slice_get head.tables at) (position (λ other. bytes_eq other part) head.parts)
 
 -- the head's own table, or that of a snapshot
 abbrev pub table_in : Option (List ℕ) → Head → Option Table
@@ -39,7 +42,8 @@ table_in (Some part) head = snap_table part head
 abbrev pub table_of : Spot → List Head → Option Table
 table_of spot heads = option_and_then (λ head. table_in spot.snap head) (head_of spot.head heads)
 
--- the tables of a head have this record size and their form; its own has no guid; each snapshot has one table, and no two have one name
+-- the tables of a head have this record size and their form; its own has no guid; each snapshot has one
+-- table, and no two have one name
 pub record IsHead (record_size : ℕ) (head : Head) : Type 0 where
   pub table : IsTable record_size head.table
   pub no_guid : head.table.guid ≡ 0

@@ -84,7 +84,8 @@ impl<B: Shelf> Family<B> {
         requires limit_most { limit ≤ MAX_SALT_USES }
         requires room_least { 1 ≤ room }
         requires room_most { room ≤ 1048576 }
-        ensures fresh { IfOk result (λ family. family ≡ fresh_family B.tells guid block (record { seed = seed; limit = limit; made = 0 }) room head portable) }
+        ensures fresh { IfOk result (λ family. family
+            ≡ fresh_family B.tells guid block (record { seed = seed; limit = limit; made = 0 }) room head portable) }
         ensures honest { IfOk result (λ family. IsTrue B.tells → IsHonest family) }
     {
         let shelf = B::fresh(alloc)?;
@@ -302,7 +303,8 @@ fn fresh_heads(alloc: Global, id: u32, table: Table) -> Result<Vec<Head>, NoMemo
 
 // The log of a fresh head: that it was made.
 fn fresh_log(alloc: Global, head: u32) -> Result<Vec<LogEntry>, NoMemory>
-    ensures { IfOk result (λ log. log.items ≡ LogEntry.Make head (record { object = 1; length = Some 0 } ∷ []) [] ∷ []) }
+    ensures { IfOk result (λ log. log.items
+        ≡ LogEntry.Make head (record { object = 1; length = Some 0 } ∷ []) [] ∷ []) }
 {
     let mut lengths = Vec::new(alloc);
     lengths.push(LengthAt {

@@ -148,7 +148,8 @@ pub fn same_tables(a: Option<&Head>, b: Option<&Head>) -> bool
 
 /// Whether two families have the same snapshots of a head, or both have no such head.
 pub fn same_snapshots(a: Option<&Head>, b: Option<&Head>) -> bool
-    ensures { IsTrue result ↔ (option_map snapshots_of (option_copied a.entry) ≡ option_map snapshots_of (option_copied b.entry)) }
+    ensures { IsTrue result ↔ (option_map snapshots_of (option_copied a.entry)
+        ≡ option_map snapshots_of (option_copied b.entry)) }
 {
     match (a, b) {
         (Some(mine), Some(others)) => mine.same_snapshots(others),

@@ -102,7 +102,8 @@ fn stood<'a>(spot: SpotRef<'a>, entry: &'a LogEntry) -> SpotRef<'a>
 }
 
 fn before_snapshot<'a>(spot: SpotRef<'a>, head: u32, part: &SnapPart) -> SpotRef<'a>
-    ensures { spot_of result ≡ (if is_snap head part.now (spot_of spot.entry) then head_spot head else spot_of spot.entry) }
+    ensures { spot_of result ≡ (if is_snap head part.now (spot_of spot.entry) then head_spot head
+        else spot_of spot.entry) }
 {
     if is_snap(head, part, spot) {
         SpotRef { head, snap: None }

@@ -11,10 +11,12 @@ ghost use Rattle.family_log.specs.LogSample.{first_block, second_block, third_bl
 /// The newest reference of a place counts, and an entry of another head says nothing. Lengths go the
 /// same way.
 pub fn the_newest_entry_counts()
-    ensures refs { (before after : List LogEntry) (entry : LogEntry) (spot : Spot) (object index : ℕ) (to : Option BlockRef)
+    ensures refs { (before after : List LogEntry) (entry : LogEntry) (spot : Spot) (object index : ℕ)
+        (to : Option BlockRef)
         → said (ref_in object index) spot entry ≡ Some to → All (Passes (ref_in object index) spot) after
         → last_ref (before ++ entry ∷ after) spot object index ≡ to }
-    ensures lengths { (before after : List LogEntry) (entry : LogEntry) (spot : Spot) (object : ℕ) (length_now : Option ℕ)
+    ensures lengths { (before after : List LogEntry) (entry : LogEntry) (spot : Spot) (object : ℕ)
+        (length_now : Option ℕ)
         → said (length_said object) spot entry ≡ Some length_now → All (Passes (length_said object) spot) after
         → last_length (before ++ entry ∷ after) spot object ≡ length_now }
     ensures others { (log : List LogEntry) (entry : LogEntry) (changes : Changes) (spot : Spot) (object index : ℕ)
@@ -33,10 +35,12 @@ pub fn snapshots_and_clones_keep_what_they_had()
         ≡ last_ref before (head_spot head) object index }
     ensures clone { (before after : List LogEntry) (from : Spot) (head : ℕ) (object index : ℕ)
         → All (Passes (ref_in object index) (head_spot head)) after
-        → last_ref (before ++ Clone from head ∷ after) (head_spot head) object index ≡ last_ref before from object index }
+        → last_ref (before ++ Clone from head ∷ after) (head_spot head) object index
+        ≡ last_ref before from object index }
     ensures snapshot_lengths { (before after : List LogEntry) (head : ℕ) (part : List ℕ) (object : ℕ)
         → All (Passes (length_said object) (snap_spot head part)) after
-        → last_length (before ++ Snapshot head part ∷ after) (snap_spot head part) object ≡ last_length before (head_spot head) object }
+        → last_length (before ++ Snapshot head part ∷ after) (snap_spot head part) object
+        ≡ last_length before (head_spot head) object }
     ensures clone_lengths { (before after : List LogEntry) (from : Spot) (head : ℕ) (object : ℕ)
         → All (Passes (length_said object) (head_spot head)) after
         → last_length (before ++ Clone from head ∷ after) (head_spot head) object ≡ last_length before from object }

@@ -29,7 +29,8 @@ fn family(alloc: Global) -> Result<Family<MemShelf>, NoMemory>
 // A change that puts a block in object 1 and leaves its length.
 fn change(alloc: Global) -> Result<HeadChange, NoMemory>
     ensures table { IfOk result (λ change. change.table ≡ fresh_table 512 (replicate 32 8)) }
-    ensures entry { IfOk result (λ change. change.entry ≡ Write 1 [] (record { object = 1; index = 4; to = Some BLOCK } ∷ [])) }
+    ensures entry { IfOk result (λ change. change.entry
+        ≡ Write 1 [] (record { object = 1; index = 4; to = Some BLOCK } ∷ [])) }
 {
     let mut refs = Vec::new(alloc);
     refs.push(RefAt {
