@@ -52,7 +52,8 @@ abbrev pub HaltFaults : Option Halt → (before now : ℕ) → Type 0
 HaltFaults (Some ReadFault) before now = (before ≤ now) × Rose before now
 HaltFaults halt before now = now ≡ before
 
--- A part of a line has read the script: the number of the next line doesn't fall, and what was told still is, where the run goes on.
+-- A part of a line has read the script: the number of the next line doesn't fall, and what was told still is,
+-- where the run goes on.
 pub record Reads (halt : Option Halt) (old new : ToldScript) (before now : ℕ) : Type 0 where
   pub later : old.next ≤ new.next
   pub told : halt ≡ None → is_some old.ahead ≡ true → is_some new.ahead ≡ true
@@ -83,7 +84,8 @@ pub record Acts (n : ℕ) (old new : Outer) (Said : List Taking → Type 0) : Ty
 
 -- the command of this part of line n has made takings
 abbrev pub ActsAs : (n part : ℕ) → (old new : Outer) → (Said : List Taking → Type 0) → Type 0
-ActsAs n part old new Said = Acts n old new (λ made. AllByRecursion (λ taking. taking.entry.part ≡ part) made × Said made)
+ActsAs n part old new Said =
+    Acts n old new (λ made. AllByRecursion (λ taking. taking.entry.part ≡ part) made × Said made)
 
 -- What is said where the world is told, and of each list that agrees with what was taken.
 abbrev pub WhereTold : Option World → List Taking → (List FoundEntry → World → Type 0) → Type 0
@@ -121,13 +123,15 @@ abbrev pub taking_with : FoundEntry → Bool → Taking
 taking_with entry fails = record { entry = entry; fails = fails }
 
 -- the material at a place was taken, as this entry, or a prompt ends the run
-abbrev pub Fetches : Result Fetched Halt → FoundEntry → Option Location → Option (List (List ℕ × List ℕ)) → (old new : ToldScript) → List Taking → Type 0
+abbrev pub Fetches : Result Fetched Halt → FoundEntry → Option Location → Option (List (List ℕ × List ℕ))
+    → (old new : ToldScript) → List Taking → Type 0
 Fetches (Ok fetched) entry place files old new made =
     (made ≡ fetch_at (taking_with entry (is_fault fetched)) place)
     × IfSome files (λ files. IfSome (script_told old) (λ script. IsSomeAnd (script_told new) (λ left.
     material_at (taking_with entry (is_fault fetched)) files script place ≡ Gives fetched left)))
 Fetches (Err (BadLine number at)) entry place files old new made =
-    (made ≡ []) × IfSome files (λ files. IfSome (script_told old) (λ script. material_at (taking_with entry false) files script place ≡ Stops number at))
+    (made ≡ []) × IfSome files (λ files. IfSome (script_told old)
+    (λ script. material_at (taking_with entry false) files script place ≡ Stops number at))
 Fetches (Err ReadFault) entry place files old new made = made ≡ []
 Fetches (Err NoMemory) entry place files old new made = IsFront made (fetch_at (taking_with entry false) place)
 
@@ -162,7 +166,8 @@ GivesKit (Err (BadLine number at)) supply new made = supply ≡ Lacks number at 
 GivesKit (Err ReadFault) supply new made = IsFront made (supply_takings supply) × (fills_of made ≡ [])
 GivesKit (Err NoMemory) supply new made = IsFront made (supply_takings supply)
 
-abbrev pub TakesKit : Result LineKit Halt → (n part : ℕ) → Wanted → List FoundEntry → Outer → (old new : ToldScript) → List Taking → Type 0
+abbrev pub TakesKit : Result LineKit Halt → (n part : ℕ) → Wanted → List FoundEntry → Outer
+    → (old new : ToldScript) → List Taking → Type 0
 TakesKit result n part wants entries outer old new made =
     IfSome outer.files (λ files. IfSome outer.entropy (λ left. IfSome (script_told old) (λ script.
     GivesKit result (kit_of (spot_of n part entries) files left script wants) (script_told new) made)))
@@ -238,7 +243,8 @@ abbrev pub answer_takings : Answer → List Taking
 answer_takings (Goes turn) = turn.takings
 answer_takings (Ends number at w takings) = takings
 
--- The run is over in the midst of a command that has this outcome. A fault of the script comes before the command's seed.
+-- The run is over in the midst of a command that has this outcome. A fault of the script comes before the
+-- command's seed.
 abbrev pub HaltsAt : Halt → Outcome → List Taking → Type 0
 HaltsAt (BadLine number at) (Does done) made = ⊥
 HaltsAt (BadLine number at) (Halts m place w takings) made = (m ≡ number) × (place ≡ at) × (made ≡ takings)
@@ -254,8 +260,10 @@ HaltsIn NoMemory answer made = IsFront made (answer_takings answer)
 
 -- a command was carried out as it is defined, or the run is over in the midst of it
 abbrev pub Executes : Result (Result Shown Why) Halt → Outcome → Option World → List Taking → Type 0
-Executes (Ok (Ok shown)) (Does done) new made = Replies (Ok shown) done.reply × (new ≡ Some done.world) × (made ≡ done.takings)
-Executes (Ok (Err why)) (Does done) new made = (done.reply ≡ Refused why) × (new ≡ Some done.world) × (made ≡ done.takings)
+Executes (Ok (Ok shown)) (Does done) new made =
+    Replies (Ok shown) done.reply × (new ≡ Some done.world) × (made ≡ done.takings)
+Executes (Ok (Err why)) (Does done) new made =
+    (done.reply ≡ Refused why) × (new ≡ Some done.world) × (made ≡ done.takings)
 Executes (Ok (Ok shown)) (Halts number at w takings) new made = ⊥
 Executes (Ok (Err why)) (Halts number at w takings) new made = ⊥
 Executes (Err halt) outcome new made = HaltsAt halt outcome made
@@ -265,9 +273,11 @@ abbrev pub well_of : Reply → ℕ
 well_of reply = if is_refusal reply then 0 else 1
 
 -- a command of line n was carried out, its report added, and it counted, or the run is over in the midst of it
-abbrev pub PerformsOne : Result ℕ Halt → ℕ → Report → KeyCmd → Outcome → Option World → (before after : List ℕ) → List Taking → Type 0
+abbrev pub PerformsOne : Result ℕ Halt → ℕ → Report → KeyCmd → Outcome → Option World → (before after : List ℕ)
+    → List Taking → Type 0
 PerformsOne (Ok count) n report command (Does done) new before after made =
-    (new ≡ Some done.world) × (after ≡ before ++ reported n done.world.present.keys report command done.reply) × (made ≡ done.takings) × (count ≡ well_of done.reply)
+    (new ≡ Some done.world) × (after ≡ before ++ reported n done.world.present.keys report command done.reply)
+    × (made ≡ done.takings) × (count ≡ well_of done.reply)
 PerformsOne (Ok count) n report command (Halts number at w takings) new before after made = ⊥
 PerformsOne (Err halt) n report command outcome new before after made = HaltsAt halt outcome made
 
@@ -275,7 +285,8 @@ PerformsOne (Err halt) n report command outcome new before after made = HaltsAt 
 
 -- a line had its turn, or the run is over in the midst of it
 abbrev pub HasAnswer : Result (Unit {0}) Halt → Answer → Option World → (before after : List ℕ) → List Taking → Type 0
-HasAnswer (Ok done) (Goes turn) new before after made = (new ≡ Some turn.world) × (after ≡ before ++ turn.output) × (made ≡ turn.takings)
+HasAnswer (Ok done) (Goes turn) new before after made =
+    (new ≡ Some turn.world) × (after ≡ before ++ turn.output) × (made ≡ turn.takings)
 HasAnswer (Ok done) (Ends number at w takings) new before after made = ⊥
 HasAnswer (Err halt) answer new before after made = HaltsIn halt answer made
 

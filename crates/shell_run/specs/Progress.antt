@@ -46,7 +46,8 @@ pub record TookCut (bytes : List ℕ) (before after : Option (List ℕ)) : Type 
 abbrev pub NoLine : Ending → ℕ → List (List ℕ) → Option (List (List ℕ)) → Type 0
 NoLine Done next ahead left = (ahead ≡ []) × (left ≡ Some [])
 NoLine (BadLine number at) next ahead left =
-    (number ≡ next) × (line : List ℕ) × (later : List (List ℕ)) × (ahead ≡ line ∷ later) × (within_limits next line Some None ≡ Some at)
+    (number ≡ next) × (line : List ℕ) × (later : List (List ℕ)) × (ahead ≡ line ∷ later)
+    × (within_limits next line Some None ≡ Some at)
 NoLine ReadFault next ahead left = Unit {0}
 NoLine NoMemory next ahead left = Unit {0}
 NoLine Usage next ahead left = ⊥
@@ -69,7 +70,8 @@ NoneTaken ending old new = IfSome old.ahead (λ ahead. NoLine ending old.next ah
 
 -- the sink has taken the output of this turn
 abbrev pub HasReplied : Answer → Option World → (before after : Option (List ℕ)) → List Taking → Type 0
-HasReplied (TakesTurn turn) new before after made = (new ≡ Some turn.world) × Appends before after turn.output × (made ≡ turn.takings)
+HasReplied (TakesTurn turn) new before after made =
+    (new ≡ Some turn.world) × Appends before after turn.output × (made ≡ turn.takings)
 HasReplied (EndsRun number at w takings) new before after made = ⊥
 
 -- of this turn's output the sink has taken a part
@@ -81,7 +83,8 @@ HasCut (EndsRun number at w takings) before after made = ⊥
 abbrev pub Replied : Option Ending → Answer → Option World → (before after : Option (List ℕ)) → List Taking → Type 0
 Replied None answer new before after made = HasReplied answer new before after made
 Replied (Some WriteFault) answer new before after made = HasCut answer before after made
-Replied (Some (BadLine number at)) answer new before after made = (after ≡ before) × HaltsIn (halts.BadLine number at) answer made
+Replied (Some (BadLine number at)) answer new before after made =
+    (after ≡ before) × HaltsIn (halts.BadLine number at) answer made
 Replied (Some ReadFault) answer new before after made = (after ≡ before) × HaltsIn halts.ReadFault answer made
 Replied (Some NoMemory) answer new before after made = (after ≡ before) × HaltsIn halts.NoMemory answer made
 Replied (Some Done) answer new before after made = ⊥
@@ -94,14 +97,16 @@ EndsInLine (Some Usage) = ⊥
 EndsInLine ending = Unit {0}
 
 -- The line was answered and the run goes on, or it ends there; so of each run whose list agrees with what was taken.
-abbrev pub LineRan : Option Ending → (found : List FoundEntry) (w : World) → Option World → (before after : Option (List ℕ)) → List Taking → Type 0
+abbrev pub LineRan : Option Ending → (found : List FoundEntry) (w : World) → Option World
+    → (before after : Option (List ℕ)) → List Taking → Type 0
 LineRan None found w new before after made =
     IsSomeAnd new (λ v. Goes (run_from found w) (run_from found v) made before after)
 LineRan (Some ending) found w new before after made = Ends ending (run_from found w) made before after
 
 -- the next line's number and what is told behind it, where the run goes on
 abbrev pub GoesPast : Option Ending → ToldScript → ToldScript → Type 0
-GoesPast None old new = (old.next ≤ 1048576) × (old.next < new.next) × (is_some old.ahead ≡ true → is_some new.ahead ≡ true)
+GoesPast None old new =
+    (old.next ≤ 1048576) × (old.next < new.next) × (is_some old.ahead ≡ true → is_some new.ahead ≡ true)
 GoesPast (Some Done) old new = IfSome old.ahead (λ ahead. new.ahead ≡ Some [])
 GoesPast (Some ending) old new = Unit {0}
 

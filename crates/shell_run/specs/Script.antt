@@ -16,11 +16,13 @@ past_line script later = record { next = script.next + 1; ahead = later }
 
 -- A script has at most 1048576 lines, each of at most 65536 bytes; another line is bad at this place.
 abbrev pub within_limits : {A : Type 0} → ℕ → List ℕ → (bad : ℕ → A) → (good : A) → A
-within_limits n bytes bad good = if nat_lt 1048576 n then bad 0 else if nat_lt 65536 (length bytes) then bad 65536 else good
+within_limits n bytes bad good =
+    if nat_lt 1048576 n then bad 0 else if nat_lt 65536 (length bytes) then bad 65536 else good
 
 -- ---- prompts
 
--- What a place gives: this, and what is left of the script; or a prompt ends the run at a place of the line of this number.
+-- What a place gives: this, and what is left of the script; or a prompt ends the run at a place of the line
+-- of this number.
 pub data Given (A : Type 0) : Type 0 where
   Gives : (given : A) (left : Script) → Given A
   Stops : (number at : ℕ) → Given A
@@ -34,8 +36,8 @@ abbrev pub prompted_before : Script → List (List ℕ) → Given (List ℕ)
 prompted_before script [] = Gives [] script
 prompted_before script (line ∷ later) = prompted_by script line later (prompt_of line)
 
--- At a prompt the next line is taken where it begins with `<`, and the material is the bytes behind that byte. Else nothing is taken,
--- and the material is empty.
+-- At a prompt the next line is taken where it begins with `<`, and the material is the bytes behind that
+-- byte. Else nothing is taken, and the material is empty.
 abbrev pub prompted : Script → Given (List ℕ)
 prompted script = prompted_before script script.ahead
 

@@ -37,7 +37,8 @@ entries_of n (entry ∷ found) = if entry.line == n then entry ∷ entries_of n 
 abbrev pub has_entry : FoundEntry → List FoundEntry → Bool
 has_entry entry [] = false
 has_entry entry (other ∷ entries) =
-    (other.line == entry.line && other.part == entry.part && rank other.what == rank entry.what) || has_entry entry entries
+    (other.line == entry.line && other.part == entry.part && rank other.what == rank entry.what)
+    || has_entry entry entries
 
 -- ---- takings that are made
 
@@ -68,7 +69,8 @@ is_fill (Shelf family draws puts) = false
 -- of each taking of these kinds, in order, whether it fails
 abbrev pub outcomes : (FoundKind → Bool) → List Taking → List Bool
 outcomes is_kind [] = []
-outcomes is_kind (taking ∷ later) = if is_kind taking.entry.what then taking.fails ∷ outcomes is_kind later else outcomes is_kind later
+outcomes is_kind (taking ∷ later) =
+    if is_kind taking.entry.what then taking.fails ∷ outcomes is_kind later else outcomes is_kind later
 
 -- of each fetch, and of each fill
 abbrev pub fetches_of : List Taking → List Bool

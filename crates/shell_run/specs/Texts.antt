@@ -93,13 +93,15 @@ error_line n rows why = reply_line n (error_text rows why)
 abbrev pub text_line : ℕ → List ℕ → List ℕ
 text_line n text = reply_line n (codes "ok " ++ text)
 
--- how `list` shows a dataset behind its name: an encrypted one by its suite, whether it is a root, and whether its key is loaded
+-- how `list` shows a dataset behind its name: an encrypted one by its suite, whether it is a root, and
+-- whether its key is loaded
 abbrev pub heir_text : Bool → List ℕ
 heir_text is_own = if is_own then codes "root" else codes "inherit"
 
 abbrev pub kind_text : Plain → ℕ → Kind → List ℕ
 kind_text p id PlainKind = codes " plain"
-kind_text p id Crypt = spaced (property_text p id Encryption ∷ heir_text (is_root p id) ∷ status_text (has_key p id) ∷ [])
+kind_text p id Crypt =
+    spaced (property_text p id Encryption ∷ heir_text (is_root p id) ∷ status_text (has_key p id) ∷ [])
 
 -- the row of `list` for a dataset
 abbrev pub set_line : ℕ → Plain → Row → List ℕ

@@ -91,7 +91,8 @@ at_prompt (Stops number at) = Stops number at
 abbrev pub material_at : Taking → List (List ℕ × List ℕ) → Script → Option Location → Given Fetched
 material_at taking files script None = Gives fetches.NotAsked script
 material_at taking files script (Some Prompt) = at_prompt (prompted script)
-material_at taking files script (Some (File path)) = Gives (if taking.fails then fetches.Fault else material_of (fetched path files)) script
+material_at taking files script (Some (File path)) =
+    Gives (if taking.fails then fetches.Fault else material_of (fetched path files)) script
 
 abbrev pub fill_at : Taking → Bool → List Taking
 fill_at taking false = []
@@ -104,7 +105,8 @@ seed_from taking left true = if taking.fails then seeds.Fault else seeds.Got (ta
 -- old material, new material and a seed, each that is wanted, whatever the others gave
 abbrev pub takings_of : Spot → List ℕ → Wanted → List Taking
 takings_of spot left wants =
-    fetch_at (taking_at spot OldKey) wants.old_place ++ fetch_at (taking_at spot NewKey) wants.new_place ++ fill_at (seed_at spot left) wants.seed
+    fetch_at (taking_at spot OldKey) wants.old_place ++ fetch_at (taking_at spot NewKey) wants.new_place
+    ++ fill_at (seed_at spot left) wants.seed
 
 -- What a command takes: a kit, which leaves so much of the script; or a prompt ends the run, behind these takings.
 pub data Supply : Type 0 where
@@ -114,14 +116,20 @@ pub data Supply : Type 0 where
 abbrev pub with_new : Spot → List ℕ → Wanted → (old : Fetched) → Given Fetched → Supply
 with_new spot left wants old (Stops number at) = Lacks number at (fetch_at (taking_at spot OldKey) wants.old_place)
 with_new spot left wants old (Gives new script) =
-    Has (record { old_key = old; new_key = new; seed = seed_from (seed_at spot left) left wants.seed }) script (takings_of spot left wants)
+    Has (record {
+      old_key = old;
+      new_key = new;
+      seed = seed_from (seed_at spot left) left wants.seed;
+    }) script (takings_of spot left wants)
 
 abbrev pub with_old : Spot → List (List ℕ × List ℕ) → List ℕ → Wanted → Given Fetched → Supply
 with_old spot files left wants (Stops number at) = Lacks number at []
-with_old spot files left wants (Gives old script) = with_new spot left wants old (material_at (taking_at spot NewKey) files script wants.new_place)
+with_old spot files left wants (Gives old script) =
+    with_new spot left wants old (material_at (taking_at spot NewKey) files script wants.new_place)
 
 abbrev pub kit_of : Spot → List (List ℕ × List ℕ) → List ℕ → Script → Wanted → Supply
-kit_of spot files left script wants = with_old spot files left wants (material_at (taking_at spot OldKey) files script wants.old_place)
+kit_of spot files left script wants =
+    with_old spot files left wants (material_at (taking_at spot OldKey) files script wants.old_place)
 
 -- ---- a command
 
@@ -131,7 +139,8 @@ pub record Commanded : Type 0 where
   pub reply : Reply
   pub takings : List Taking
 
--- A command is carried out; or a prompt ends the run at a place of the line of this number, and leaves this world after these takings.
+-- A command is carried out; or a prompt ends the run at a place of the line of this number, and leaves this
+-- world after these takings.
 pub data Outcome : Type 0 where
   Does : (done : Commanded) → Outcome
   Halts : (number at : ℕ) (world : World) (takings : List Taking) → Outcome
@@ -141,7 +150,11 @@ abbrev pub supplied : World → KeyCmd → Supply → Outcome
 supplied w command (Lacks number at takings) = Halts number at w takings
 supplied w command (Has kit left takings) =
     let step = stepped w.present.keys command kit in
-    Does (record { world = world_of step.state w.files (left_after (fills_of takings) w.entropy) left; reply = step.reply; takings = takings })
+    Does (record {
+      world = world_of step.state w.files (left_after (fills_of takings) w.entropy) left;
+      reply = step.reply;
+      takings = takings;
+    })
 
 abbrev pub refused_at_once : World → Refusal → Outcome
 refused_at_once w why = Does (record { world = w; reply = Refused why; takings = [] })
@@ -149,7 +162,8 @@ refused_at_once w why = Does (record { world = w; reply = Refused why; takings =
 -- A command that the state refuses takes nothing.
 abbrev pub unless_refused : Spot → World → KeyCmd → Option Refusal → Outcome
 unless_refused spot w command (Some why) = refused_at_once w why
-unless_refused spot w command None = supplied w command (kit_of spot w.files w.entropy w.script (wanted w.present.keys command))
+unless_refused spot w command None =
+    supplied w command (kit_of spot w.files w.entropy w.script (wanted w.present.keys command))
 
 abbrev pub commanded : Spot → World → KeyCmd → Outcome
 commanded spot w command = unless_refused spot w command (refusal_of w.present.keys command)
@@ -162,7 +176,8 @@ pub record Turn : Type 0 where
   pub output : List ℕ
   pub takings : List Taking
 
--- A line has its turn; or it ends the run at a place of the line of this number, and leaves this world after these takings.
+-- A line has its turn; or it ends the run at a place of the line of this number, and leaves this world after
+-- these takings.
 pub data Answer : Type 0 where
   Goes : (turn : Turn) → Answer
   Ends : (number at : ℕ) (world : World) (takings : List Taking) → Answer
@@ -202,7 +217,11 @@ unless_halted before (Halts number at w takings) rest = Ends number at w (before
 abbrev pub performed : ℕ → List FoundEntry → Report → Performed → List KeyCmd → Answer
 performed n entries report before [] = Goes (closed n report before)
 performed n entries report before (command ∷ later) =
-    unless_halted before (commanded (record { line = n; part = before.tried; entries = entries }) before.turn.world command)
+    unless_halted before (commanded (record {
+      line = n;
+      part = before.tried;
+      entries = entries;
+    }) before.turn.world command)
     (λ done. performed n entries report (with_done n report command before done) later)
 
 abbrev pub answer_to : ℕ → List FoundEntry → World → Asked → Answer
@@ -266,12 +285,13 @@ run_within (suc bound) found w = run_before found w w.script.ahead (λ turn. run
 abbrev pub run_from : List FoundEntry → World → Run
 run_from found w = run_within (length w.script.ahead) found w
 
--- The whole run under these words, from this world on, where these takings fail. No word is an option yet, so every one is a faulty
--- command line.
+-- The whole run under these words, from this world on, where these takings fail. No word is an option yet, so
+-- every one is a faulty command line.
 abbrev pub transcript : {W : Type 0} → List W → List FoundEntry → World → Run
 transcript [] found w = run_from found w
 transcript (word ∷ words) found w = record { turns = []; status = 2; last = usage_line }
 
 -- the run of a host that holds nothing, where script, key files and entropy are told
 abbrev pub told_transcript : {W : Type 0} → List W → Option (List ℕ) → Outer → List FoundEntry → Option Run
-told_transcript words script outer found = option_map (transcript words found) (told_world no_keys outer (script_of 1 script))
+told_transcript words script outer found =
+    option_map (transcript words found) (told_world no_keys outer (script_of 1 script))

@@ -20,8 +20,8 @@ use key_store::KeyState;
 use shell_lines::{Line, LineStop, parse_line};
 use std::alloc::Global;
 
-/// Carries out the line of this number, and adds what it prints. An `Err` says that the run is over: the bytes spell no line, or the
-/// line isn't carried out to its end.
+/// Carries out the line of this number, and adds what it prints. An `Err` says that the run is over: the
+/// bytes spell no line, or the line isn't carried out to its end.
 pub(crate) fn answer<W: Outside>(
     alloc: Global,
     keys: &mut KeyState,
@@ -33,9 +33,11 @@ pub(crate) fn answer<W: Outside>(
     requires { length bytes.now ≤ 65536 }
     ensures told { Acts number (W.told outside.old) (W.told outside.new) (λ made.
         WhereTold (told_world keys.old (W.told outside.old) (W.script outside.old)) made (λ entries w.
-        HasAnswer result (answer_if number entries w (line_of bytes.now 0)) (told_world keys.new (W.told outside.new) (W.script outside.new))
+        HasAnswer result (answer_if number entries w (line_of bytes.now 0))
+        (told_world keys.new (W.told outside.new) (W.script outside.new))
         output.old.items output.new.items made)) }
-    ensures reads { Reads (result_err result) (W.script outside.old) (W.script outside.new) (W.faults outside.old) (W.faults outside.new) }
+    ensures reads { Reads (result_err result) (W.script outside.old) (W.script outside.new)
+        (W.faults outside.old) (W.faults outside.new) }
     ensures holds { W.holds outside.new ≡ W.holds outside.old }
 {
     match parse_line(alloc, bytes, 0) {
@@ -65,9 +67,11 @@ fn carry_out<W: Outside>(
     requires { HasRecordSize line.now }
     ensures told { Acts number (W.told outside.old) (W.told outside.new) (λ made.
         WhereTold (told_world keys.old (W.told outside.old) (W.script outside.old)) made (λ entries w.
-        HasAnswer result (answer_of number entries w line.now) (told_world keys.new (W.told outside.new) (W.script outside.new))
+        HasAnswer result (answer_of number entries w line.now)
+        (told_world keys.new (W.told outside.new) (W.script outside.new))
         output.old.items output.new.items made)) }
-    ensures reads { Reads (result_err result) (W.script outside.old) (W.script outside.new) (W.faults outside.old) (W.faults outside.new) }
+    ensures reads { Reads (result_err result) (W.script outside.old) (W.script outside.new)
+        (W.faults outside.old) (W.faults outside.new) }
     ensures holds { W.holds outside.new ≡ W.holds outside.old }
 {
     let task = match task_of(alloc, keys, line) {
@@ -101,7 +105,8 @@ fn perform<W: Outside>(
         WhereTold (told_world keys.old (W.told outside.old) (W.script outside.old)) made (λ entries w.
         HasAnswer result (performed number entries report.now (begun w) commands.now)
         (told_world keys.new (W.told outside.new) (W.script outside.new)) output.old.items output.new.items made)) }
-    ensures reads { Reads (result_err result) (W.script outside.old) (W.script outside.new) (W.faults outside.old) (W.faults outside.new) }
+    ensures reads { Reads (result_err result) (W.script outside.old) (W.script outside.new)
+        (W.faults outside.old) (W.faults outside.new) }
     ensures holds { W.holds outside.new ≡ W.holds outside.old }
 {
     let mut tried: u64 = 0;
@@ -117,7 +122,8 @@ fn perform<W: Outside>(
     push_closing(output, number, keys, report, well, tried)
 }
 
-/// Carries out a command of this part of the line, adds the report of it, and answers how many commands went well: one or none.
+/// Carries out a command of this part of the line, adds the report of it, and answers how many commands went
+/// well: one or none.
 fn perform_one<W: Outside>(
     alloc: Global,
     keys: &mut KeyState,
@@ -134,7 +140,8 @@ fn perform_one<W: Outside>(
         PerformsOne result number report.now command.now (commanded (spot_of number part entries) w command.now)
         (told_world keys.new (W.told outside.new) (W.script outside.new)) output.old.items output.new.items made)) }
     ensures few { IfOk result (λ count. count ≤ 1) }
-    ensures reads { Reads (result_err result) (W.script outside.old) (W.script outside.new) (W.faults outside.old) (W.faults outside.new) }
+    ensures reads { Reads (result_err result) (W.script outside.old) (W.script outside.new)
+        (W.faults outside.old) (W.faults outside.new) }
     ensures holds { W.holds outside.new ≡ W.holds outside.old }
 {
     match execute(alloc, keys, outside, number, part, command) {
@@ -152,7 +159,8 @@ fn push_report(
     command: &KeyCmd,
     shown: &Result<Shown, Refusal>,
 ) -> Result<u64, Halt>
-    ensures text { OnOk result (output.new.items ≡ output.old.items ++ shown_report number keys.now.tree.rows report.now command.now shown.now) }
+    ensures text { OnOk result (output.new.items ≡ output.old.items
+        ++ shown_report number keys.now.tree.rows report.now command.now shown.now) }
     ensures count { IfOk result (λ count. count ≡ well_count shown.now) }
     ensures stops { OnErr result (result ≡ Err Halt.NoMemory) }
 {
@@ -215,7 +223,8 @@ fn push_closing(
 
 /// Adds the rows of all datasets, and that the line was carried out.
 fn push_list(output: &mut Vec<u8>, number: u32, keys: &KeyState) -> Result<(), NoMemory>
-    ensures text { OnOk result (output.new.items ≡ output.old.items ++ (flat_map (set_line number keys.now) keys.now.tree.rows ++ ok_line number)) }
+    ensures text { OnOk result (output.new.items ≡ output.old.items
+        ++ (flat_map (set_line number keys.now) keys.now.tree.rows ++ ok_line number)) }
 {
     push_sets(output, number, keys)?;
     push_ok(output, number)
@@ -228,7 +237,8 @@ fn push_shown(
     keys: &KeyState,
     shown: &Result<Shown, Refusal>,
 ) -> Result<(), NoMemory>
-    ensures text { OnOk result (output.new.items ≡ output.old.items ++ shown_output number keys.now.tree.rows shown.now) }
+    ensures text { OnOk result (output.new.items ≡ output.old.items
+        ++ shown_output number keys.now.tree.rows shown.now) }
 {
     match shown {
         Ok(Shown::Done) => push_ok(output, number),

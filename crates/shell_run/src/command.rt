@@ -26,8 +26,8 @@ pub(crate) enum Shown {
     Text(PropText),
 }
 
-/// Carries out a command of line `number`, which is this part of it, with what it takes for it, or gives its refusal. Where the state refuses it, nothing is
-/// taken. An `Err` says that the run is over.
+/// Carries out a command of line `number`, which is this part of it, with what it takes for it, or gives its
+/// refusal. Where the state refuses it, nothing is taken. An `Err` says that the run is over.
 pub(crate) fn execute<W: Outside>(
     alloc: Global,
     keys: &mut KeyState,
@@ -39,8 +39,10 @@ pub(crate) fn execute<W: Outside>(
     requires { IsOfLine command.now }
     ensures told { ActsAs number part (W.told outside.old) (W.told outside.new) (λ made.
         WhereTold (told_world keys.old (W.told outside.old) (W.script outside.old)) made (λ entries w.
-        Executes result (commanded (spot_of number part entries) w command.now) (told_world keys.new (W.told outside.new) (W.script outside.new)) made)) }
-    ensures reads { Reads (result_err result) (W.script outside.old) (W.script outside.new) (W.faults outside.old) (W.faults outside.new) }
+        Executes result (commanded (spot_of number part entries) w command.now)
+        (told_world keys.new (W.told outside.new) (W.script outside.new)) made)) }
+    ensures reads { Reads (result_err result) (W.script outside.old) (W.script outside.new)
+        (W.faults outside.old) (W.faults outside.new) }
     // These two refusals come only where a taking for this line failed.
     ensures key_fault { result ≡ Ok (Err Refusal.KeyFault) →
         Rose (W.told outside.old).fetches.faults (W.told outside.new).fetches.faults }
@@ -121,7 +123,8 @@ fn change(
     kit: &LineKit,
 ) -> Result<Shown, Stop>
     ensures reply { Replies result (stepped keys.old (commands.Change name.now opts.now load_first) kit.now).reply }
-    ensures state { keys.new ≡ state_after result keys.old (stepped keys.old (commands.Change name.now opts.now load_first) kit.now).state }
+    ensures state { keys.new ≡ state_after result keys.old
+        (stepped keys.old (commands.Change name.now opts.now load_first) kit.now).state }
 {
     states_are_sound(keys);
     let plan = match plan_change(alloc, keys, name, opts, load_first, kit) {
@@ -141,7 +144,8 @@ fn inherit(
     kit: &LineKit,
 ) -> Result<Shown, Stop>
     ensures reply { Replies result (stepped keys.old (commands.Inherit name.now load_first) kit.now).reply }
-    ensures state { keys.new ≡ state_after result keys.old (stepped keys.old (commands.Inherit name.now load_first) kit.now).state }
+    ensures state { keys.new ≡ state_after result keys.old
+        (stepped keys.old (commands.Inherit name.now load_first) kit.now).state }
 {
     states_are_sound(keys);
     let plan = match plan_inherit(alloc, keys, name, load_first, kit) {
@@ -152,8 +156,8 @@ fn inherit(
     Ok(Shown::Done)
 }
 
-/// Takes the present key, the new key and a seed, each that is needed, whatever the others gave. Where a prompt ends the run, what
-/// stands behind it isn't taken.
+/// Takes the present key, the new key and a seed, each that is needed, whatever the others gave. Where a
+/// prompt ends the run, what stands behind it isn't taken.
 fn take_kit<W: Outside>(
     alloc: Global,
     outside: &mut W,
@@ -161,9 +165,12 @@ fn take_kit<W: Outside>(
     part: u32,
     needs: &Needs,
 ) -> Result<LineKit, Halt>
-    ensures takes { ActsAs number part (W.told outside.old) (W.told outside.new) (λ made. (entries : List FoundEntry) → Agrees entries made →
-        TakesKit result number part (wants_of needs.now) entries (W.told outside.old) (W.script outside.old) (W.script outside.new) made) }
-    ensures reads { Reads (result_err result) (W.script outside.old) (W.script outside.new) (W.faults outside.old) (W.faults outside.new) }
+    ensures takes { ActsAs number part (W.told outside.old) (W.told outside.new)
+        (λ made. (entries : List FoundEntry) → Agrees entries made →
+        TakesKit result number part (wants_of needs.now) entries (W.told outside.old) (W.script outside.old)
+        (W.script outside.new) made) }
+    ensures reads { Reads (result_err result) (W.script outside.old) (W.script outside.new)
+        (W.faults outside.old) (W.faults outside.new) }
     ensures asked { IfOk result (λ kit. HasWanted needs.now kit) }
     ensures old_key_fault { IfOk result (λ kit. kit.old_key ≡ Fetched.Fault →
         Rose (W.told outside.old).fetches.faults (W.told outside.new).fetches.faults) }
@@ -204,7 +211,8 @@ fn fetch_if<W: Outside>(
     requires { is_fetch entry.what ≡ true }
     ensures takes { Acts entry.line (W.told outside.old) (W.told outside.new)
         (Fetches result entry place.now (W.told outside.old).files (W.script outside.old) (W.script outside.new)) }
-    ensures reads { Reads (result_err result) (W.script outside.old) (W.script outside.new) (W.faults outside.old) (W.faults outside.new) }
+    ensures reads { Reads (result_err result) (W.script outside.old) (W.script outside.new)
+        (W.faults outside.old) (W.faults outside.new) }
     ensures asked { IfOk result (λ fetched. is_some place.now ≡ true → WasAsked fetched) }
     ensures fault { result ≡ Ok Fetched.Fault →
         Rose (W.told outside.old).fetches.faults (W.told outside.new).fetches.faults }

@@ -52,8 +52,10 @@ pub(crate) trait Outside {
     /// Fetches the key material at a place, as this taking: from a file, or from the next line of the script.
     fn fetch(&mut self, alloc: Global, place: &Location, entry: FoundEntry) -> Result<Fetched, Halt>
         requires { is_fetch entry.what ≡ true }
-        ensures takes { Acts entry.line (told self.old) (told self.new) (Fetches result entry (Some place.now) (told self.old).files (script self.old) (script self.new)) }
-        ensures reads { Reads (result_err result) (script self.old) (script self.new) (faults self.old) (faults self.new) }
+        ensures takes { Acts entry.line (told self.old) (told self.new)
+            (Fetches result entry (Some place.now) (told self.old).files (script self.old) (script self.new)) }
+        ensures reads { Reads (result_err result) (script self.old) (script self.new) (faults self.old)
+            (faults self.new) }
         ensures asked { IfOk result (λ fetched. WasAsked fetched) }
         ensures fault { result ≡ Ok Fetched.Fault → Rose (told self.old).fetches.faults (told self.new).fetches.faults }
         ensures holds { holds self.new ≡ holds self.old };
@@ -61,7 +63,8 @@ pub(crate) trait Outside {
     /// Takes 32 random bytes, if they are wanted, as this taking.
     fn fill(&mut self, is_wanted: bool, entry: FoundEntry) -> Result<SeedGot, NoMemory>
         requires { is_fill entry.what ≡ true }
-        ensures takes { Acts entry.line (told self.old) (told self.new) (Fills result entry is_wanted (told self.old).entropy) }
+        ensures takes { Acts entry.line (told self.old) (told self.new)
+            (Fills result entry is_wanted (told self.old).entropy) }
         ensures asked { IfOk result (λ seed. is_wanted ≡ true → SeedWasAsked seed) }
         ensures fault { result ≡ Ok SeedGot.Fault → Rose (told self.old).fills.faults (told self.new).fills.faults }
         ensures script { script self.new ≡ script self.old }
@@ -69,7 +72,8 @@ pub(crate) trait Outside {
         ensures holds { holds self.new ≡ holds self.old };
 }
 
-/// What is lent to a run, with a reader of the script and the number of the next line. Each reference has a lifetime of its own.
+/// What is lent to a run, with a reader of the script and the number of the next line. Each reference has a
+/// lifetime of its own.
 #[derive(Drop)]
 pub(crate) struct Lent<'r, 's, 'f, 'e, 'l, S: Source, F: KeyFiles, E: Entropy> {
     pub(crate) next: u32,
@@ -93,7 +97,8 @@ impl<S: Source, F: KeyFiles, E: Entropy> Outside for Lent<'_, '_, '_, '_, '_, S,
 
     ghost faults = { λ lent. S.faults lent.source.now };
 
-    ghost holds = { λ lent. lent.source.ghost_name ∷ lent.files.ghost_name ∷ lent.entropy.ghost_name ∷ lent.found.ghost_name ∷ [] };
+    ghost holds = { λ lent. lent.source.ghost_name ∷ lent.files.ghost_name ∷ lent.entropy.ghost_name
+        ∷ lent.found.ghost_name ∷ [] };
 
     fn next(&self) -> u32 {
         self.next
@@ -166,7 +171,8 @@ fn fill_seed<E: Entropy>(entropy: &mut E) -> SeedGot
     ensures seed { IfSome (E.left entropy.old) (λ left. FillsFrom left (E.left entropy.new) result) }
     ensures call { let before : Calls = calls_of (E.calls entropy.old) (E.failing entropy.old) (E.faults entropy.old) in
         let after : Calls = calls_of (E.calls entropy.new) (E.failing entropy.new) (E.faults entropy.new) in
-        IsCalled (fill_fails (E.left entropy.old) (next_listed (E.calls entropy.old) (E.failing entropy.old))) (is_seed_fault result) before after }
+        IsCalled (fill_fails (E.left entropy.old) (next_listed (E.calls entropy.old) (E.failing entropy.old)))
+        (is_seed_fault result) before after }
     ensures asked { SeedWasAsked result }
 {
     let mut seed = [0; 32];

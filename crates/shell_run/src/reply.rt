@@ -136,7 +136,8 @@ pub(crate) fn push_key(
     name: &SetName,
     shown: &Result<Shown, Refusal>,
 ) -> Result<(), NoMemory>
-    ensures { OnOk result (text.new.items ≡ text.old.items ++ key_line line name.now (shown_root tree.now.rows shown.now)) }
+    ensures { OnOk result (text.new.items ≡ text.old.items
+        ++ key_line line name.now (shown_root tree.now.rows shown.now)) }
 {
     push_number(text, line as u64)?;
     text.extend_from_slice(b" key ")?;

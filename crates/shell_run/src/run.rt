@@ -232,7 +232,8 @@ pub(crate) fn run_lines<O: Sink, W: Outside>(
     ensures told { RunsFrom (λ line. line ≤ MAX_LINES) (W.told outside.old) (W.told outside.new) (λ found made.
         IfSome (told_world keys.old (W.told outside.old) (W.script outside.old)) (λ w.
         Ends result (run_from found w) made (O.taken out.old) (O.taken out.new))) }
-    ensures end { result ≡ Ending.Done → IfSome (W.script outside.old).ahead (λ ahead. (W.script outside.new).ahead ≡ Some []) }
+    ensures end { result ≡ Ending.Done
+        → IfSome (W.script outside.old).ahead (λ ahead. (W.script outside.new).ahead ≡ Some []) }
     ensures not_usage { result ≢ Ending.Usage }
     ensures source { SourceFaults (Some result) (W.faults outside.old) (W.faults outside.new) }
     ensures sink { SinkFaults (Some result) (O.faults out.old) (O.faults out.new) }
@@ -254,9 +255,11 @@ fn run_line<O: Sink, W: Outside>(
     out: &mut O,
     outside: &mut W,
 ) -> Option<Ending>
-    ensures told { RunsFrom (λ line. (line ≡ (W.script outside.old).next) × (line ≤ MAX_LINES)) (W.told outside.old) (W.told outside.new) (λ found made.
+    ensures told { RunsFrom (λ line. (line ≡ (W.script outside.old).next)
+        × (line ≤ MAX_LINES)) (W.told outside.old) (W.told outside.new) (λ found made.
         IfSome (told_world keys.old (W.told outside.old) (W.script outside.old)) (λ w.
-        LineRan result found w (told_world keys.new (W.told outside.new) (W.script outside.new)) (O.taken out.old) (O.taken out.new) made)) }
+        LineRan result found w (told_world keys.new (W.told outside.new) (W.script outside.new))
+        (O.taken out.old) (O.taken out.new) made)) }
     ensures past { GoesPast result (W.script outside.old) (W.script outside.new) }
     ensures not_usage { result ≢ Some Ending.Usage }
     ensures source { SourceFaults result (W.faults outside.old) (W.faults outside.new) }
@@ -283,10 +286,12 @@ fn reply_to<O: Sink, W: Outside>(
     requires { length line.now ≤ 65536 }
     ensures told { Acts number (W.told outside.old) (W.told outside.new) (λ made.
         WhereTold (told_world keys.old (W.told outside.old) (W.script outside.old)) made (λ entries w.
-        Replied result (answer_if number entries w (line_of line.now 0)) (told_world keys.new (W.told outside.new) (W.script outside.new))
+        Replied result (answer_if number entries w (line_of line.now 0))
+        (told_world keys.new (W.told outside.new) (W.script outside.new))
         (O.taken out.old) (O.taken out.new) made)) }
     ensures later { (W.script outside.old).next ≤ (W.script outside.new).next }
-    ensures stays { result ≡ None → is_some (W.script outside.old).ahead ≡ true → is_some (W.script outside.new).ahead ≡ true }
+    ensures stays { result ≡ None → is_some (W.script outside.old).ahead ≡ true
+        → is_some (W.script outside.new).ahead ≡ true }
     ensures kinds { EndsInLine result }
     ensures source { SourceFaults result (W.faults outside.old) (W.faults outside.new) }
     ensures sink { SinkFaults result (O.faults out.old) (O.faults out.new) }
@@ -305,9 +310,11 @@ fn reply_to<O: Sink, W: Outside>(
 /// Prints the last line of a run that ends so. Where no memory is left for it, the run ends with that.
 fn close<O: Sink>(alloc: Global, ending: Ending, out: &mut O) -> Ending
     ensures ending { ClosesAs ending result }
-    ensures told { WroteLast (closing_line result) (O.taken out.old) (O.taken out.new) (O.faults out.old) (O.faults out.new) }
+    ensures told { WroteLast (closing_line result) (O.taken out.old) (O.taken out.new) (O.faults out.old)
+        (O.faults out.new) }
     ensures later { O.faults out.old ≤ O.faults out.new }
-    ensures silent { closing_line result ≡ [] → (O.faults out.new ≡ O.faults out.old) × (O.taken out.new ≡ O.taken out.old) }
+    ensures silent { closing_line result ≡ []
+        → (O.faults out.new ≡ O.faults out.old) × (O.taken out.new ≡ O.taken out.old) }
 {
     match ending {
         Ending::Done | Ending::WriteFault => {}

@@ -20,7 +20,8 @@ pub(crate) fn take_line<S: Source>(
     reader: &mut LineReader,
     source: &mut S,
 ) -> Result<Vec<u8>, Ending>
-    ensures line { IfOk result (λ line. IsNextLine line.items (script_of next.old (unread reader.old (S.left source.old)))
+    ensures line { IfOk result (λ line. IsNextLine line.items
+        (script_of next.old (unread reader.old (S.left source.old)))
         (script_of next.new (unread reader.new (S.left source.new)))) }
     ensures none { IfErr result (λ ending. NoneTaken ending (script_of next.old (unread reader.old (S.left source.old)))
         (script_of next.new (unread reader.new (S.left source.new)))) }
@@ -45,16 +46,19 @@ pub(crate) fn take_line<S: Source>(
     }
 }
 
-/// Takes the next line where it answers a prompt, and counts it: the material behind its `<`. Where it doesn't, the material is empty.
+/// Takes the next line where it answers a prompt, and counts it: the material behind its `<`. Where it
+/// doesn't, the material is empty.
 pub(crate) fn take_prompt<S: Source>(
     alloc: Global,
     next: &mut u32,
     reader: &mut LineReader,
     source: &mut S,
 ) -> Result<Vec<u8>, Halt>
-    ensures given { IfOk result (λ material. PromptGives material.items (script_of next.old (unread reader.old (S.left source.old)))
+    ensures given { IfOk result (λ material. PromptGives material.items
+        (script_of next.old (unread reader.old (S.left source.old)))
         (script_of next.new (unread reader.new (S.left source.new)))) }
-    ensures stops { IfErr result (λ halt. PromptStops halt (script_of next.old (unread reader.old (S.left source.old)))) }
+    ensures stops { IfErr result (λ halt. PromptStops halt
+        (script_of next.old (unread reader.old (S.left source.old)))) }
     ensures reads { Reads (result_err result) (script_of next.old (unread reader.old (S.left source.old)))
         (script_of next.new (unread reader.new (S.left source.new))) (S.faults source.old) (S.faults source.new) }
 {

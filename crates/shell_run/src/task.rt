@@ -122,7 +122,8 @@ fn on_named(
     action: RootAction,
     name: &Word,
 ) -> Result<Task, NoMemory>
-    ensures asked { IfOk result (λ task. IsTask task (on_roots keys.now action (roots_named keys.now (named name.now)))) }
+    ensures asked { IfOk result (λ task. IsTask task
+        (on_roots keys.now action (roots_named keys.now (named name.now)))) }
     ensures few { IfOk result (λ task. length task.commands.items ≤ MAX_PARTS) }
 {
     states_are_sound(keys);

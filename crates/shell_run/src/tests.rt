@@ -140,10 +140,10 @@ change-key b
 change-key -i b/c
 ";
 
-// A run of a script: which fetches and which fills fail, how many bytes of entropy there are, and then the replies and the
-// failed takings, each with its line and part. Of the first script line 1 takes a seed although its key fails; line 5 makes a
-// dataset only where line 1 has made none. Of the second the second of three fetches of line 6 fails, and the seed of line 8
-// behind a good key.
+// A run of a script: which fetches and which fills fail, how many bytes of entropy there are, and then the
+// replies and the failed takings, each with its line and part. Of the first script line 1 takes a seed
+// although its key fails; line 5 makes a dataset only where line 1 has made none. Of the second the second of
+// three fetches of line 6 fails, and the seed of line 8 behind a good key.
 type Row = (
     &'static [u8],
     &'static [u32],
