@@ -4,3 +4,5 @@ pub mod Walk
 pub mod Places
 pub mod Calls
 pub mod Fold
+pub mod Runs
+pub mod Replaced
