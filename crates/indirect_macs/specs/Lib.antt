@@ -6,3 +6,4 @@ pub mod Calls
 pub mod Fold
 pub mod Runs
 pub mod Replaced
+pub mod RunFields

@@ -5,11 +5,16 @@
 //! the MAC of the top covers all. A node without references isn't stored: it is a hole.
 #![tactic(auto)]
 
+mod children;
 mod entry;
 mod fold;
 mod laws;
 mod node;
 mod refs;
+mod replace;
+mod run;
+mod span;
+mod stored;
 mod walk;
 
 pub use fold::fold_mac;
@@ -17,6 +22,7 @@ pub use laws::{
     block_nodes_have_one_spelling, ref_nodes_have_one_spelling, walks_stay_when_the_shelf_grows,
     walks_stop_at_the_first_place_that_fails,
 };
+pub use replace::replace_run;
 pub use refs::{BlockRef, MacError, NodeRef, ObjTree};
 pub use walk::lookup;
 

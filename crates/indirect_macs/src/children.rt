@@ -1,0 +1,153 @@
+// The old tree below the touched nodes, read from the top down.
+
+use crate::entry::{BLOCK_ENTRY_LEN, NODE_ENTRY_LEN, block_at, node_at};
+use crate::node::ENTRIES;
+use crate::refs::{BlockRef, MacError, NodeRef};
+use crate::run::Run;
+use crate::span::first_at;
+use crate::walk::read_node;
+use shelf_store::Shelf;
+use std::alloc::Global;
+
+/// What the walk to a node finds in the node above it, or where it fails.
+pub type Found = Result<Option<NodeRef>, MacError>;
+
+// The first block over a node.
+fn block_over(level: u8, index: u32) -> u32
+{
+    index << (5 * u32::from(level))
+}
+
+// The references in a node above level 1.
+fn refs_in(node: &[u8; ENTRIES * NODE_ENTRY_LEN]) -> [Found; 32]
+{
+    let mut found = [Ok(None); ENTRIES];
+    'entries: for slot in 0..ENTRIES {
+        let at = NODE_ENTRY_LEN * slot;
+        found[slot] = Ok(node_at(&node[at..at + NODE_ENTRY_LEN]));
+    }
+    found
+}
+
+// The references in a node of level 1.
+fn blocks_in(node: &[u8; ENTRIES * BLOCK_ENTRY_LEN]) -> [Option<BlockRef>; 32]
+{
+    let mut blocks = [None; ENTRIES];
+    'entries: for slot in 0..ENTRIES {
+        let at = BLOCK_ENTRY_LEN * slot;
+        blocks[slot] = block_at(&node[at..at + BLOCK_ENTRY_LEN]);
+    }
+    blocks
+}
+
+// What is found below a node above the old top: only the first of the lowest of these has something,
+// the old top.
+fn found_above(run: &Run, level: u8, index: u32) -> [Found; 32]
+{
+    let mut found = [Ok(None); ENTRIES];
+    if level == run.tree.levels + 1 && index == 0 {
+        found[0] = Ok(run.tree.top);
+    }
+    found
+}
+
+// What is found below a node of the old tree.
+fn found_in<B: Shelf>(
+    run: &Run,
+    shelf: &mut B,
+    level: u8,
+    index: u32,
+    node: &NodeRef,
+) -> Result<[Found; 32], MacError>
+{
+    let mut bytes = [0; ENTRIES * NODE_ENTRY_LEN];
+    match read_node(shelf, node, level, block_over(level, index), run.block, &mut bytes) {
+        Ok(()) => Ok(refs_in(&bytes)),
+        Err(MacError::MacFailed { level, index }) => {
+            Ok([Err(MacError::MacFailed { level, index }); ENTRIES])
+        }
+        Err(stop) => Err(stop),
+    }
+}
+
+// What is found below a node to which the walk came.
+fn found_below<B: Shelf>(
+    run: &Run,
+    shelf: &mut B,
+    level: u8,
+    index: u32,
+    found: &Found,
+) -> Result<[Found; 32], MacError>
+{
+    if level > run.tree.levels {
+        return Ok(found_above(run, level, index));
+    }
+    match found {
+        Ok(Some(node)) => found_in(run, shelf, level, index, node),
+        Ok(None) => Ok([Ok(None); ENTRIES]),
+        Err(failed) => Ok([Err(*failed); ENTRIES]),
+    }
+}
+
+/// What is found below the touched nodes of a level, 32 for each.
+pub fn read_children<B: Shelf>(
+    alloc: Global,
+    run: &Run,
+    shelf: &mut B,
+    level: u8,
+    old: &[Found],
+) -> Result<Vec<Found>, MacError>
+{
+    let first = first_at(run, level);
+    let mut children = Vec::new(alloc);
+    'nodes: for i in 0..old.len() {
+        match found_below(run, shelf, level, first + i as u32, &old[i]) {
+            Ok(found) => children.extend_from_slice(&found)?,
+            Err(stop) => return Err(stop),
+        }
+    }
+    Ok(children)
+}
+
+// The old blocks of a node of level 1 to which the walk came.
+fn blocks_below<B: Shelf>(
+    run: &Run,
+    shelf: &mut B,
+    index: u32,
+    found: &Found,
+) -> Result<[Option<BlockRef>; 32], MacError>
+{
+    let node = match found {
+        Ok(Some(node)) => node,
+        Ok(None) => return Ok([None; ENTRIES]),
+        Err(failed) => return Err(*failed),
+    };
+    let mut bytes = [0; ENTRIES * BLOCK_ENTRY_LEN];
+    match read_node(shelf, node, 1, block_over(1, index), run.block, &mut bytes) {
+        Ok(()) => Ok(blocks_in(&bytes)),
+        Err(stop) => Err(stop),
+    }
+}
+
+/// The old blocks of the touched nodes of level 1, 32 for each.
+///
+/// # Errors
+///
+/// The failure of the first walk that fails.
+pub fn read_blocks<B: Shelf>(
+    alloc: Global,
+    run: &Run,
+    shelf: &mut B,
+    old: &[Found],
+) -> Result<Vec<Option<BlockRef>>, MacError>
+{
+    let first = first_at(run, 1);
+    let mut blocks = Vec::new(alloc);
+    'nodes: for i in 0..old.len() {
+        match blocks_below(run, shelf, first + i as u32, &old[i]) {
+            Ok(found) => blocks.extend_from_slice(&found)?,
+            Err(stop) => return Err(stop),
+        }
+    }
+    Ok(blocks)
+}
