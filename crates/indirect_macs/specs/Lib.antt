@@ -7,3 +7,4 @@ pub mod Fold
 pub mod Runs
 pub mod Replaced
 pub mod RunFields
+pub mod Steps

@@ -1,4 +1,11 @@
 // The old tree below the touched nodes, read from the top down.
+ghost use Rattle.std.specs.Prelude.{◌≡◌, ℕ, ◌+◌, ◌-◌, ◌*◌, ◌^◌, ◌<◌, ◌≤◌, List, length, map, take, Some, None, Ok, Err, IfSome, IfOk, IfErr};
+ghost use Rattle.indirect_macs.specs.Entries.{block_at, node_at};
+ghost use Rattle.indirect_macs.specs.Nodes.{entry_at, slots};
+ghost use Rattle.indirect_macs.specs.Calls.{is_fault};
+ghost use Rattle.indirect_macs.specs.RunFields.{run_of};
+ghost use Rattle.indirect_macs.specs.Runs.{child_of, count_at, entries_at, first_at, found_at};
+ghost use Rattle.indirect_macs.specs.Steps.{AreLeaves, IsLeaf, IsRange, IsStop, Reads};
 
 use crate::entry::{BLOCK_ENTRY_LEN, NODE_ENTRY_LEN, block_at, node_at};
 use crate::node::ENTRIES;
@@ -14,12 +21,16 @@ pub type Found = Result<Option<NodeRef>, MacError>;
 
 // The first block over a node.
 fn block_over(level: u8, index: u32) -> u32
+    requires levels { level ≤ 5 }
+    requires fits { index * 32 ^ level < 2 ^ 32 }
+    ensures { result ≡ index * 32 ^ level }
 {
     index << (5 * u32::from(level))
 }
 
 // The references in a node above level 1.
 fn refs_in(node: &[u8; ENTRIES * NODE_ENTRY_LEN]) -> [Found; 32]
+    ensures { (level : ℕ) → 2 ≤ level → result ≡ map (λ slot. Ok (node_at (entry_at level node.now slot))) slots }
 {
     let mut found = [Ok(None); ENTRIES];
     'entries: for slot in 0..ENTRIES {
@@ -31,6 +42,7 @@ fn refs_in(node: &[u8; ENTRIES * NODE_ENTRY_LEN]) -> [Found; 32]
 
 // The references in a node of level 1.
 fn blocks_in(node: &[u8; ENTRIES * BLOCK_ENTRY_LEN]) -> [Option<BlockRef>; 32]
+    ensures { result ≡ map (λ slot. block_at (entry_at 1 node.now slot)) slots }
 {
     let mut blocks = [None; ENTRIES];
     'entries: for slot in 0..ENTRIES {
@@ -43,6 +55,8 @@ fn blocks_in(node: &[u8; ENTRIES * BLOCK_ENTRY_LEN]) -> [Option<BlockRef>; 32]
 // What is found below a node above the old top: only the first of the lowest of these has something,
 // the old top.
 fn found_above(run: &Run, level: u8, index: u32) -> [Found; 32]
+    requires above { run.now.tree.levels < level }
+    ensures { (held : List (List ℕ)) → result ≡ entries_at (found_at held run.now.block (run_of run.now) (level - 1)) index }
 {
     let mut found = [Ok(None); ENTRIES];
     if level == run.tree.levels + 1 && index == 0 {
@@ -59,6 +73,13 @@ fn found_in<B: Shelf>(
     index: u32,
     node: &NodeRef,
 ) -> Result<[Found; 32], MacError>
+    requires above { 2 ≤ level }
+    requires levels { level ≤ 5 }
+    requires fits { index * 32 ^ level < 2 ^ 32 }
+    ensures reads { Reads 1 (is_fault result) (B.told shelf.old) (B.told shelf.new) }
+    ensures stops { IfErr result IsStop }
+    ensures told { IfSome (B.told shelf.old).held (λ held.
+        IfOk result (λ found. found ≡ entries_at (λ i. child_of held run.now.block level i (Some node.now)) index)) }
 {
     let mut bytes = [0; ENTRIES * NODE_ENTRY_LEN];
     match read_node(shelf, node, level, block_over(level, index), run.block, &mut bytes) {
@@ -78,6 +99,14 @@ fn found_below<B: Shelf>(
     index: u32,
     found: &Found,
 ) -> Result<[Found; 32], MacError>
+    requires above { 2 ≤ level }
+    requires levels { level ≤ 5 }
+    requires fits { index * 32 ^ level < 2 ^ 32 }
+    ensures reads { Reads 1 (is_fault result) (B.told shelf.old) (B.told shelf.new) }
+    ensures hole { run.now.tree.levels < level → B.told shelf.new ≡ B.told shelf.old }
+    ensures stops { IfErr result IsStop }
+    ensures told { IfSome (B.told shelf.old).held (λ held. found.now ≡ found_at held run.now.block (run_of run.now) level index
+        → IfOk result (λ found. found ≡ entries_at (found_at held run.now.block (run_of run.now) (level - 1)) index)) }
 {
     if level > run.tree.levels {
         return Ok(found_above(run, level, index));
@@ -97,6 +126,17 @@ pub fn read_children<B: Shelf>(
     level: u8,
     old: &[Found],
 ) -> Result<Vec<Found>, MacError>
+    requires above { 2 ≤ level }
+    requires levels { level ≤ 5 }
+    requires count { length old.now ≡ count_at (run_of run.now) level }
+    ensures reads { Reads (length old.now) (is_fault result) (B.told shelf.old) (B.told shelf.new) }
+    ensures hole { run.now.tree.levels < level → B.told shelf.new ≡ B.told shelf.old }
+    ensures stops { IfErr result IsStop }
+    ensures size { IfOk result (λ children. length children.items ≡ 32 * length old.now) }
+    ensures told { IfSome (B.told shelf.old).held (λ held.
+        IsRange (found_at held run.now.block (run_of run.now) level) (first_at (run_of run.now) level) (length old.now) old.now
+        → IfOk result (λ children. IsRange (found_at held run.now.block (run_of run.now) (level - 1))
+        (32 * first_at (run_of run.now) level) (32 * length old.now) children.items)) }
 {
     let first = first_at(run, level);
     let mut children = Vec::new(alloc);
@@ -116,6 +156,10 @@ fn blocks_below<B: Shelf>(
     index: u32,
     found: &Found,
 ) -> Result<[Option<BlockRef>; 32], MacError>
+    requires fits { index * 32 < 2 ^ 32 }
+    ensures reads { Reads 1 (is_fault result) (B.told shelf.old) (B.told shelf.new) }
+    ensures told { IfSome (B.told shelf.old).held (λ held. found.now ≡ found_at held run.now.block (run_of run.now) 1 index
+        → IsLeaf held run.now.block (run_of run.now) index result) }
 {
     let node = match found {
         Ok(Some(node)) => node,
@@ -140,6 +184,12 @@ pub fn read_blocks<B: Shelf>(
     shelf: &mut B,
     old: &[Found],
 ) -> Result<Vec<Option<BlockRef>>, MacError>
+    requires { length old.now ≡ count_at (run_of run.now) 1 }
+    ensures reads { Reads (length old.now) (is_fault result) (B.told shelf.old) (B.told shelf.new) }
+    ensures size { IfOk result (λ blocks. length blocks.items ≡ 32 * length old.now) }
+    ensures told { IfSome (B.told shelf.old).held (λ held.
+        IsRange (found_at held run.now.block (run_of run.now) 1) (first_at (run_of run.now) 1) (length old.now) old.now
+        → AreLeaves (λ blocks. blocks.items) held run.now.block (run_of run.now) (first_at (run_of run.now) 1) (length old.now) result) }
 {
     let first = first_at(run, 1);
     let mut blocks = Vec::new(alloc);

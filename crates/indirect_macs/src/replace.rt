@@ -1,4 +1,14 @@
 // A run of references is put into a tree.
+ghost use Rattle.std.specs.Prelude.{◌≡◌, ℕ, ◌+◌, ◌-◌, ◌*◌, ◌^◌, ◌<◌, ◌≤◌, ◌∷◌, ◌++◌, List, [], length, map, min, replicate, All, IsTrue, Option, Result, Some, None, Ok, Err, IfSome, IfOk, IfErr, if◌then◌else◌};
+ghost use Rattle.std.specs.Cmp.Lexicographic.{pointwise};
+ghost use Rattle.std.specs.Option.{option_eq};
+ghost use Rattle.shelf_store.specs.ShelfState.{ShelfState};
+ghost use Rattle.indirect_macs.specs.Calls.{is_fault};
+ghost use Rattle.indirect_macs.specs.Entries.{is_size};
+ghost use Rattle.indirect_macs.specs.RunFields.{run_for, run_of};
+ghost use Rattle.indirect_macs.specs.Runs.{Made as Outcome, Old, begun, count_at, entries_at, first_at, found_at, kept, levels_for, levels_made, most_puts, most_reads, new_ref, nodes_made, old_of, or_hole, raised_below, same_block, same_node, target, touched_below};
+ghost use Rattle.indirect_macs.specs.Replaced.{Changes, Replaced};
+ghost use Rattle.indirect_macs.specs.Steps.{AllWalk, FirstOf, HasPut, IsRange, Knows, LevelsPut, LevelsRun, Puts};
 
 use crate::children::{Found, read_blocks, read_children};
 use crate::node::ENTRIES;
@@ -18,6 +28,7 @@ struct Made {
 }
 
 fn or_hole(found: &Found) -> Option<NodeRef>
+    ensures { result ≡ or_hole found.now }
 {
     match found {
         Ok(node) => *node,
@@ -27,6 +38,7 @@ fn or_hole(found: &Found) -> Option<NodeRef>
 
 // The new reference to a block, whose old one is given.
 fn target(run: &Run, index: u32, old: &Option<BlockRef>) -> Option<BlockRef>
+    ensures { (before : Old) → before.block index ≡ old.now → result ≡ target (run_of run.now) before index }
 {
     if run.blocks <= index {
         return None;
@@ -38,7 +50,11 @@ fn target(run: &Run, index: u32, old: &Option<BlockRef>) -> Option<BlockRef>
 }
 
 // The new reference to a node of this level, whose old one is given.
-fn new_ref(run: &Run, level: u8, made: &Made, index: u32, old: &Found) -> Option<NodeRef>
+fn new_ref(run: &Run, level: u8, made: &Made, index: u32, old: &Option<NodeRef>) -> Option<NodeRef>
+    requires levels { level ≤ 5 }
+    requires count { length made.now.refs.items ≡ count_at (run_of run.now) level }
+    ensures { (before : Old) (below : Outcome) → before.node level index ≡ old.now → made.now.refs.items ≡ below.refs
+        → made.now.raised ≡ below.raised → result ≡ new_ref (run_of run.now) before level below index }
 {
     let first = first_at(run, level);
     if first <= index && index <= last_at(run, level) {
@@ -48,16 +64,30 @@ fn new_ref(run: &Run, level: u8, made: &Made, index: u32, old: &Found) -> Option
         return None;
     }
     if level <= run.tree.levels {
-        return or_hole(old);
+        return *old;
     }
     if index == 0 { made.raised } else { None }
 }
 
 fn new_blocks(run: &Run, index: u32, old: &[Option<BlockRef>]) -> [Option<BlockRef>; 32]
+    requires fits { 32 * index < 2 ^ 31 }
+    requires size { length old.now ≡ 32 }
+    ensures { (before : Old) → old.now ≡ entries_at before.block index → result ≡ entries_at (target (run_of run.now) before) index }
 {
     let mut entries = [None; ENTRIES];
     'entries: for slot in 0..ENTRIES {
         entries[slot] = target(run, 32 * index + slot as u32, &old[slot]);
+    }
+    entries
+}
+
+fn old_refs(old: &[Found]) -> [Option<NodeRef>; 32]
+    requires { length old.now ≡ 32 }
+    ensures { result ≡ map or_hole old.now }
+{
+    let mut entries = [None; ENTRIES];
+    'entries: for slot in 0..ENTRIES {
+        entries[slot] = or_hole(&old[slot]);
     }
     entries
 }
@@ -67,8 +97,15 @@ fn new_refs(
     level: u8,
     below: &Made,
     index: u32,
-    old: &[Found],
+    old: &[Option<NodeRef>; 32],
 ) -> [Option<NodeRef>; 32]
+    requires above { 2 ≤ level }
+    requires levels { level ≤ 5 }
+    requires fits { 32 * index < 2 ^ 31 }
+    requires count { length below.now.refs.items ≡ count_at (run_of run.now) (level - 1) }
+    ensures { (before : Old) (made : Outcome) → old.now ≡ entries_at (before.node (level - 1)) index
+        → below.now.refs.items ≡ made.refs → below.now.raised ≡ made.raised
+        → result ≡ entries_at (new_ref (run_of run.now) before (level - 1) made) index }
 {
     let mut entries = [None; ENTRIES];
     'entries: for slot in 0..ENTRIES {
@@ -77,32 +114,43 @@ fn new_refs(
     entries
 }
 
-fn same_blocks(old: &[Option<BlockRef>], new: &[Option<BlockRef>; 32]) -> bool
+fn same_block(one: &BlockRef, other: &BlockRef) -> bool
+    ensures { result ≡ same_block one.now other.now }
 {
-    'entries: for slot in 0..ENTRIES {
-        if old[slot] != new[slot] {
-            return false;
-        }
-    }
-    true
+    one.size == other.size
+        && one.addr == other.addr
+        && one.salt == other.salt
+        && one.iv == other.iv
+        && one.mac == other.mac
 }
 
-fn same_refs(old: &[Found], new: &[Option<NodeRef>; 32]) -> bool
+fn same_node(one: &NodeRef, other: &NodeRef) -> bool
+    ensures { result ≡ same_node one.now other.now }
 {
-    'entries: for slot in 0..ENTRIES {
-        if or_hole(&old[slot]) != new[slot] {
-            return false;
-        }
-    }
-    true
+    one.addr == other.addr && one.mac == other.mac
+}
+
+fn same_blocks(old: &[Option<BlockRef>], new: &[Option<BlockRef>; 32]) -> bool
+    ensures { result ≡ pointwise (option_eq same_block) old.now new.now }
+{
+    old == new.as_slice()
+}
+
+fn same_refs(old: &[Option<NodeRef>; 32], new: &[Option<NodeRef>; 32]) -> bool
+    ensures { result ≡ pointwise (option_eq same_node) old.now new.now }
+{
+    old == new
 }
 
 fn kept(same: bool, old: &Found) -> Option<NodeRef>
+    ensures { result ≡ (if same then or_hole old.now else None) }
 {
     if same { or_hole(old) } else { None }
 }
 
 fn push(refs: &mut Vec<Option<NodeRef>>, node: Option<NodeRef>) -> Result<(), MacError>
+    ensures pushed { IfOk result (λ _. refs.new.items ≡ refs.old.items ++ node ∷ []) }
+    ensures stop { IfErr result (λ stop. stop ≡ MacError.NoMemory) }
 {
     match refs.push(node) {
         Ok(()) => Ok(()),
@@ -118,6 +166,13 @@ fn put_leaves<B: Shelf>(
     old: &[Found],
     blocks: &[Option<BlockRef>],
 ) -> Result<Made, MacError>
+    requires count { length old.now ≡ count_at (run_of run.now) 1 }
+    requires size { length blocks.now ≡ 32 * length old.now }
+    ensures made { (before : Old) (reads : ℕ) (start : ShelfState)
+        → IsRange (before.node 1) (first_at (run_of run.now) 1) (length old.now) (map or_hole old.now)
+        → IsRange before.block (32 * first_at (run_of run.now) 1) (32 * length old.now) blocks.now
+        → HasPut reads [] start (B.told shelf.old)
+        → LevelsPut (λ made. made.refs.items) (λ made. made.raised) reads (levels_made (run_of run.now) before (length start.sizes) 1) result start (B.told shelf.new) }
 {
     let first = first_at(run, 1);
     let mut refs = Vec::new(alloc);
@@ -142,6 +197,11 @@ fn put_raised<B: Shelf>(
     level: u8,
     below: &Made,
 ) -> Result<Option<NodeRef>, MacError>
+    requires levels { level ≤ 5 }
+    ensures { (reads : ℕ) (made : Outcome) (start : ShelfState) → below.now.raised ≡ made.raised
+        → HasPut reads made.puts start (B.told shelf.old)
+        → let first = begun (run_of run.now) (length start.sizes) level made in
+        IfOk result (λ raised. raised ≡ first.raised) × Puts reads first.puts result start (B.told shelf.new) }
 {
     if level <= run.tree.levels || first_at(run, level) == 0 {
         return Ok(below.raised);
@@ -161,13 +221,24 @@ fn put_nodes<B: Shelf>(
     children: &[Found],
     below: &Made,
 ) -> Result<Vec<Option<NodeRef>>, MacError>
+    requires above { 2 ≤ level }
+    requires levels { level ≤ 5 }
+    requires count { length old.now ≡ count_at (run_of run.now) level }
+    requires size { length children.now ≡ 32 * length old.now }
+    requires below { length below.now.refs.items ≡ count_at (run_of run.now) (level - 1) }
+    ensures { (before : Old) (reads : ℕ) (made : Outcome) (start : ShelfState)
+        → Knows (run_of run.now) before level (first_at (run_of run.now) level) old.now children.now
+        → below.now.refs.items ≡ made.refs → below.now.raised ≡ made.raised
+        → HasPut reads (begun (run_of run.now) (length start.sizes) level made).puts start (B.told shelf.old)
+        → let after = nodes_made (run_of run.now) before (length start.sizes) level made (length old.now) in
+        IfOk result (λ refs. refs.items ≡ after.refs) × Puts reads after.puts result start (B.told shelf.new) }
 {
     let first = first_at(run, level);
     let mut refs = Vec::new(alloc);
     'nodes: for i in 0..old.len() {
-        let before = &children[ENTRIES * i..ENTRIES * i + ENTRIES];
-        let entries = new_refs(run, level, below, first + i as u32, before);
-        match put_inner(shelf, level, &entries, &kept(same_refs(before, &entries), &old[i])) {
+        let before = old_refs(&children[ENTRIES * i..ENTRIES * i + ENTRIES]);
+        let entries = new_refs(run, level, below, first + i as u32, &before);
+        match put_inner(shelf, level, &entries, &kept(same_refs(&before, &entries), &old[i])) {
             Ok(node) => push(&mut refs, node)?,
             Err(stop) => return Err(stop),
         }
@@ -184,6 +255,17 @@ fn put_level<B: Shelf>(
     children: &[Found],
     below: &Made,
 ) -> Result<Made, MacError>
+    requires above { 2 ≤ level }
+    requires levels { level ≤ 5 }
+    requires count { length old.now ≡ count_at (run_of run.now) level }
+    requires size { length children.now ≡ 32 * length old.now }
+    requires below { length below.now.refs.items ≡ count_at (run_of run.now) (level - 1) }
+    ensures { (before : Old) (reads : ℕ) (made : Outcome) (start : ShelfState)
+        → Knows (run_of run.now) before level (first_at (run_of run.now) level) old.now children.now
+        → below.now.refs.items ≡ made.refs → below.now.raised ≡ made.raised
+        → HasPut reads made.puts start (B.told shelf.old)
+        → LevelsPut (λ made. made.refs.items) (λ made. made.raised) reads (nodes_made (run_of run.now) before (length start.sizes) level made (length old.now))
+        result start (B.told shelf.new) }
 {
     let raised = match put_raised(run, shelf, level, below) {
         Ok(node) => node,
@@ -197,6 +279,12 @@ fn put_level<B: Shelf>(
 
 // The children of the touched nodes of a level that are touched themselves.
 fn touched<'a>(run: &Run, level: u8, children: &'a [Found]) -> &'a [Found]
+    requires above { 2 ≤ level }
+    requires levels { level ≤ 5 }
+    requires size { length children.now ≡ 32 * count_at (run_of run.now) level }
+    ensures count { length result.now ≡ count_at (run_of run.now) (level - 1) }
+    ensures range { (f : ℕ → Result (Option NodeRef) MacError) → IsRange f (32 * first_at (run_of run.now) level) (32 * count_at (run_of run.now) level) children.now
+        → IsRange f (first_at (run_of run.now) (level - 1)) (count_at (run_of run.now) (level - 1)) result.now }
 {
     let first = (first_at(run, level - 1) - 32 * first_at(run, level)) as usize;
     let count = (last_at(run, level - 1) - first_at(run, level - 1)) as usize + 1;
@@ -212,6 +300,16 @@ fn replace_levels<B: Shelf>(
     level: u8,
     old: &[Found],
 ) -> Result<Made, MacError>
+    requires above { 1 ≤ level }
+    requires levels { level ≤ 5 }
+    requires count { length old.now ≡ count_at (run_of run.now) level }
+    ensures told { IfSome (B.told shelf.old).held (λ held.
+        IsRange (found_at held run.now.block (run_of run.now) level) (first_at (run_of run.now) level) (length old.now) old.now
+        → LevelsRun (λ made. made.refs.items) (λ made. made.raised) held run.now.block (run_of run.now) level result (B.told shelf.old) (B.told shelf.new)) }
+    ensures changes { Changes (touched_below (run_of run.now) (min level run.now.tree.levels))
+        (touched_below (run_of run.now) (min level (levels_for run.now.blocks)) + raised_below (run_of run.now) (min level (levels_for run.now.blocks)))
+        result (B.told shelf.old) (B.told shelf.new) }
+    ensures count { IfOk result (λ made. length made.refs.items ≡ count_at (run_of run.now) (min level (levels_for run.now.blocks))) }
 {
     if level == 1 {
         return match read_blocks(alloc, run, shelf, old) {
@@ -256,6 +354,15 @@ pub fn replace_run<B: Shelf>(
     refs: &[Option<BlockRef>],
     block: u32,
 ) -> Result<ObjTree, MacError>
+    requires above { 1 ≤ tree.now.levels }
+    requires levels { tree.now.levels ≤ 5 }
+    requires within { from + length refs.now ≤ blocks }
+    requires most { blocks ≤ 8388608 }
+    requires sizes { All (λ entry. IfSome entry (λ r. IsTrue (is_size block r.size))) refs.now }
+    ensures changes { let run = run_for tree.now blocks from refs.now in
+        Changes (most_reads run) (most_puts run) result (B.told shelf.old) (B.told shelf.new) }
+    ensures told { IfSome (B.told shelf.old).held (λ held.
+        Replaced held block (run_for tree.now blocks from refs.now) result (B.told shelf.old) (B.told shelf.new)) }
 {
     let levels = levels_for(blocks);
     if blocks == 0 {

@@ -1,4 +1,12 @@
 // Nodes of given entries, as they are put on a shelf.
+ghost use Rattle.std.specs.Prelude.{◌≡◌, ℕ, ◌≤◌, List, [], ◌∷◌, ◌++◌, length, map, replicate, Option, IfOk};
+ghost use Rattle.std.specs.List.{flat_map};
+ghost use Rattle.std.specs.Option.{option_map};
+ghost use Rattle.shelf_store.specs.ShelfState.{ShelfState};
+ghost use Rattle.indirect_macs.specs.Entries.{block_entry, node_entry, node_under_mac};
+ghost use Rattle.indirect_macs.specs.Nodes.{block_node, mac_of, ref_node};
+ghost use Rattle.indirect_macs.specs.Runs.{inner_of, leaf_of, puts_with, ref_with};
+ghost use Rattle.indirect_macs.specs.Steps.{HasPut, Puts};
 
 use crate::entry::{BLOCK_ENTRY_LEN, NODE_ENTRY_LEN, update_node};
 use crate::fold::{are_holes, blocks_mac};
@@ -10,6 +18,8 @@ use shelf_store::{Shelf, ShelfError};
 
 // Writes a reference to a block as an entry.
 fn put_block(entry: &mut [u8], block: &Option<BlockRef>)
+    requires { entry.old ≡ replicate 49 0 }
+    ensures { entry.new ≡ block_entry block.now }
 {
     let Some(block) = block else {
         return;
@@ -23,6 +33,8 @@ fn put_block(entry: &mut [u8], block: &Option<BlockRef>)
 }
 
 fn put_ref(entry: &mut [u8], node: &Option<NodeRef>)
+    requires { entry.old ≡ replicate 25 0 }
+    ensures { entry.new ≡ node_entry node.now }
 {
     let Some(node) = node else {
         return;
@@ -33,6 +45,7 @@ fn put_ref(entry: &mut [u8], node: &Option<NodeRef>)
 }
 
 fn leaf_bytes(entries: &[Option<BlockRef>; 32]) -> [u8; ENTRIES * BLOCK_ENTRY_LEN]
+    ensures { result ≡ block_node entries.now }
 {
     let mut bytes = [0; ENTRIES * BLOCK_ENTRY_LEN];
     'entries: for slot in 0..ENTRIES {
@@ -43,6 +56,7 @@ fn leaf_bytes(entries: &[Option<BlockRef>; 32]) -> [u8; ENTRIES * BLOCK_ENTRY_LE
 }
 
 fn inner_bytes(entries: &[Option<NodeRef>; 32]) -> [u8; ENTRIES * NODE_ENTRY_LEN]
+    ensures { result ≡ ref_node entries.now }
 {
     let mut bytes = [0; ENTRIES * NODE_ENTRY_LEN];
     'entries: for slot in 0..ENTRIES {
@@ -53,6 +67,7 @@ fn inner_bytes(entries: &[Option<NodeRef>; 32]) -> [u8; ENTRIES * NODE_ENTRY_LEN
 }
 
 fn mac_in(entry: &Option<NodeRef>) -> Option<[u8; 16]>
+    ensures { result ≡ option_map (λ r. r.mac) entry.now }
 {
     match entry {
         Some(node) => Some(node.mac),
@@ -62,6 +77,7 @@ fn mac_in(entry: &Option<NodeRef>) -> Option<[u8; 16]>
 
 // The MAC of the node of this level of these entries.
 fn inner_mac(entries: &[Option<NodeRef>; 32], level: u8) -> [u8; 16]
+    ensures { result ≡ mac_of level (flat_map node_under_mac (map (option_map (λ r. r.mac)) entries.now)) }
 {
     let mut hasher = Sha512::new();
     hasher.update(&[level]);
@@ -73,6 +89,9 @@ fn inner_mac(entries: &[Option<NodeRef>; 32], level: u8) -> [u8; 16]
 
 // Puts a node at the end of the shelf.
 fn put<B: Shelf>(shelf: &mut B, node: &[u8]) -> Result<u64, MacError>
+    ensures address { IfOk result (λ address. address ≡ length (B.told shelf.old).sizes) }
+    ensures puts { (reads : ℕ) (before : List (List ℕ)) (start : ShelfState) → HasPut reads before start (B.told shelf.old)
+        → Puts reads (before ++ node.now ∷ []) result start (B.told shelf.new) }
 {
     match shelf.put(node) {
         Ok(addr) => Ok(addr),
@@ -88,6 +107,9 @@ pub fn put_leaf<B: Shelf>(
     entries: &[Option<BlockRef>; 32],
     kept: &Option<NodeRef>,
 ) -> Result<Option<NodeRef>, MacError>
+    ensures value { IfOk result (λ node. node ≡ ref_with (length (B.told shelf.old).sizes) (leaf_of entries.now) kept.now) }
+    ensures puts { (reads : ℕ) (before : List (List ℕ)) (start : ShelfState) → HasPut reads before start (B.told shelf.old)
+        → Puts reads (puts_with (leaf_of entries.now) kept.now before) result start (B.told shelf.new) }
 {
     if are_holes(entries) {
         return Ok(None);
@@ -111,6 +133,9 @@ pub fn put_inner<B: Shelf>(
     entries: &[Option<NodeRef>; 32],
     kept: &Option<NodeRef>,
 ) -> Result<Option<NodeRef>, MacError>
+    ensures value { IfOk result (λ node. node ≡ ref_with (length (B.told shelf.old).sizes) (inner_of level entries.now) kept.now) }
+    ensures puts { (reads : ℕ) (before : List (List ℕ)) (start : ShelfState) → HasPut reads before start (B.told shelf.old)
+        → Puts reads (puts_with (inner_of level entries.now) kept.now before) result start (B.told shelf.new) }
 {
     if are_holes(entries) {
         return Ok(None);
