@@ -6,3 +6,5 @@ pub mod Groups
 pub mod Spelling
 pub mod FirstPlace
 pub mod Growth
+pub mod FoldOfTree
+pub mod TreeFold

@@ -4,3 +4,4 @@ pub mod Walk
 pub mod Places
 pub mod Calls
 pub mod Fold
+pub mod Trees

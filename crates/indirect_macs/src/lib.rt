@@ -10,6 +10,7 @@ mod fold;
 mod laws;
 mod node;
 mod refs;
+mod run_laws;
 mod walk;
 
 pub use fold::fold_mac;
@@ -18,6 +19,7 @@ pub use laws::{
     walks_stop_at_the_first_place_that_fails,
 };
 pub use refs::{BlockRef, MacError, NodeRef, ObjTree};
+pub use run_laws::tops_are_folds;
 pub use walk::lookup;
 
 #[cfg(test)]

@@ -1,0 +1,16 @@
+// Laws of trees and of the run. The functions do nothing.
+ghost use Rattle.std.specs.Prelude.{◌≡◌, ◌+◌, ◌^◌, ◌<◌, ◌≤◌, suc, ℕ, List, Option, length};
+ghost use Rattle.std.specs.Option.{option_map};
+ghost use Rattle.indirect_macs.specs.Fold.{fold_mac};
+ghost use Rattle.indirect_macs.specs.Trees.{HasNoEmptyNodes, HoldsBytes, LeadsTo};
+ghost use Rattle.indirect_macs.specs.declared.refs.BlockRef.{BlockRef};
+ghost use Rattle.indirect_macs.specs.declared.refs.NodeRef.{NodeRef};
+
+/// A tree of the fewest levels for its blocks, in which no node of holes alone is stored, has the
+/// MAC of the references that it leads to.
+pub fn tops_are_folds()
+    ensures { (held : List (List ℕ)) (record_size below : ℕ) (top : Option NodeRef) (refs : List (Option BlockRef))
+        → HoldsBytes held → length refs ≤ 32 ^ (below + 1) → ((lower : ℕ) → below ≡ suc lower → 32 ^ below < length refs)
+        → LeadsTo held record_size below top refs → HasNoEmptyNodes held below top
+        → option_map (λ node. node.mac) top ≡ fold_mac refs }
+{}
