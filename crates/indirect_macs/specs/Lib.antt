@@ -4,4 +4,6 @@ pub mod Walk
 pub mod Places
 pub mod Calls
 pub mod Fold
+pub mod Runs
+pub mod Replaced
 pub mod Trees
