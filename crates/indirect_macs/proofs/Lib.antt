@@ -8,3 +8,5 @@ pub mod FirstPlace
 pub mod Growth
 pub mod FoldOfTree
 pub mod TreeFold
+pub mod RunBounds
+pub mod RunFound
