@@ -10,3 +10,4 @@ pub mod FoldOfTree
 pub mod TreeFold
 pub mod RunBounds
 pub mod RunFound
+pub mod RunMade
