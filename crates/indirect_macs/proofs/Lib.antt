@@ -11,3 +11,4 @@ pub mod TreeFold
 pub mod RunBounds
 pub mod RunFound
 pub mod RunMade
+pub mod RunNodes

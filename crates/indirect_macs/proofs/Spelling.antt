@@ -66,7 +66,7 @@ pub and_both : (a b : Bool) → (a && b) ≡ true → (a ≡ true) × (b ≡ tru
 and_both true b h = (refl, h)
 and_both false b h = cc
 
-passes_at : {X : Type 0} (p : X → Bool) (xs : List X) (d : X) (i : ℕ) → i < length xs → list_all p xs ≡ true → p (get_or xs i d) ≡ true
+pub passes_at : {X : Type 0} (p : X → Bool) (xs : List X) (d : X) (i : ℕ) → i < length xs → list_all p xs ≡ true → p (get_or xs i d) ≡ true
 passes_at p [] d i within all = absurd (omega (arith, within))
 passes_at p (x ∷ xs) d zero within all = (and_both (p x) (list_all p xs) all).0
 passes_at p (x ∷ xs) d (suc i) within all = passes_at p xs d i (omega (arith, within)) (and_both (p x) (list_all p xs) all).1
@@ -222,13 +222,13 @@ unfolding little_endian_bytes
 node_without_address None = refl
 node_without_address (Some r) = refl
 
-length-block_entry : (record_size : ℕ) (o : Option BlockRef) → IfSome o (IsBlockRef record_size) → length (block_entry o) ≡ 49
+pub length-block_entry : (record_size : ℕ) (o : Option BlockRef) → IfSome o (IsBlockRef record_size) → length (block_entry o) ≡ 49
 unfolding little_endian_bytes
 length-block_entry record_size None is = refl
 length-block_entry record_size (Some r) is =
     omega (arith, length-append (r.salt ++ r.iv) r.mac, length-append r.salt r.iv, is.salt, is.iv, is.mac)
 
-length-node_entry : (o : Option NodeRef) → IfSome o IsNodeRef → length (node_entry o) ≡ 25
+pub length-node_entry : (o : Option NodeRef) → IfSome o IsNodeRef → length (node_entry o) ≡ 25
 unfolding little_endian_bytes
 length-node_entry None is = refl
 length-node_entry (Some r) is = omega (arith, is.mac)

@@ -58,12 +58,12 @@ passes_from held record_size level node bytes is =
     }
 
 -- what a node that was walked through has
-ok_passed : {X : Type 0} (f : List ℕ → X) (found : Option (List ℕ)) (failed : MacError) (x : X)
+pub ok_passed : {X : Type 0} (f : List ℕ → X) (found : Option (List ℕ)) (failed : MacError) (x : X)
     → option_map_or (λ bytes. Ok (f bytes)) found (Err failed) ≡ Ok x → (bytes : List ℕ) × (found ≡ Some bytes) × (f bytes ≡ x)
 ok_passed f None failed x is = absurd (cc)
 ok_passed f (Some bytes) failed x is = (bytes, refl, cc)
 
-goes_ok : {X Y : Type 0} (on : X → Result Y MacError) (next : Result X MacError) (y : Y)
+pub goes_ok : {X Y : Type 0} (on : X → Result Y MacError) (next : Result X MacError) (y : Y)
     → goes_on on (λ failed. Err failed) next ≡ Ok y → (x : X) × (next ≡ Ok x) × (on x ≡ Ok y)
 goes_ok on (Ok x) y is = (x, refl, is)
 goes_ok on (Err failed) y is = absurd (cc)
@@ -92,13 +92,13 @@ place_above below index j s within place =
 pub first_under : (level j : ℕ) → place_of level (j * 32 ^ level) ≡ j
 first_under level j = mul-div_cancel j (omega (arith, power_least level))
 
-lowest_slot : (j s : ℕ) → s < 32 → slot_of 1 (32 * j + s) ≡ s
+pub lowest_slot : (j s : ℕ) → s < 32 → slot_of 1 (32 * j + s) ≡ s
 lowest_slot j s within =
     let turned : 32 * j + s ≡ j * 32 + s = omega arith in
     let none : (32 * j + s) / 1 ≡ 32 * j + s = omega arith in
     ap (λ (p : ℕ). p % 32) (none ∙ turned) ∙ mod-mul-add j 32 s within
 
-lowest_place : (j s : ℕ) → s < 32 → place_of 1 (32 * j + s) ≡ j
+pub lowest_place : (j s : ℕ) → s < 32 → place_of 1 (32 * j + s) ≡ j
 lowest_place j s within =
     let turned : 32 * j + s ≡ j * 32 + s = omega arith in
     ap (λ (p : ℕ). p / 32) turned ∙ div-mul-add j 32 s within
@@ -114,7 +114,7 @@ first_place level index at =
 
 -- ---- the MAC of a node by its entries
 
-block_none : (e : List ℕ) → is_none (block_at e) ≡ (slice_index e 0 == 0)
+pub block_none : (e : List ℕ) → is_none (block_at e) ≡ (slice_index e 0 == 0)
 unfolding block_at
 block_none e = by_first (slice_index e 0 == 0) _
   where
@@ -122,7 +122,7 @@ block_none e = by_first (slice_index e 0 == 0) _
     by_first true r = refl
     by_first false r = refl
 
-node_none : (e : List ℕ) → is_none (node_at e) ≡ (slice_index e 0 == 0)
+pub node_none : (e : List ℕ) → is_none (node_at e) ≡ (slice_index e 0 == 0)
 unfolding node_at
 node_none e = by_first (slice_index e 0 == 0) _
   where
@@ -130,7 +130,7 @@ node_none e = by_first (slice_index e 0 == 0) _
     by_first true r = refl
     by_first false r = refl
 
-map_same : {X : Type 0} (f g : ℕ → X) (n : ℕ) → ((k : ℕ) → k < n → f k ≡ g k) → map f (range_with_len 0 n) ≡ map g (range_with_len 0 n)
+pub map_same : {X : Type 0} (f g : ℕ → X) (n : ℕ) → ((k : ℕ) → k < n → f k ≡ g k) → map f (range_with_len 0 n) ≡ map g (range_with_len 0 n)
 map_same f g n same =
     fill_by_all g (map f (range_with_len 0 n)) n (f 0) (length-map-range_with_len f 0 n) (λ k within.
     get_or-map-range_with_len f 0 n k k (f 0) within (omega arith) ∙ same k within)
@@ -140,7 +140,7 @@ pub under_same : {X : Type 0} (f : ℕ → Option X) (g : ℕ → Option X) (j :
 unfolding under slots
 under_same f g j same = map_same (λ s. f (32 * j + s)) g 32 same
 
-length-slots : {X : Type 0} (f : ℕ → X) → length (map f slots) ≡ 32
+pub length-slots : {X : Type 0} (f : ℕ → X) → length (map f slots) ≡ 32
 unfolding slots
 length-slots f = length-map-range_with_len f 0 32
 
@@ -150,7 +150,7 @@ unfolding group_mac
 group_some level g f filled =
     rw (filled, filled_whole (map f slots) (length-slots f), flat_map-map g f slots) refl
 
-block_holes : (bytes : List ℕ) → list_all is_none (blocks_of bytes) ≡ is_empty_node 1 bytes
+pub block_holes : (bytes : List ℕ) → list_all is_none (blocks_of bytes) ≡ is_empty_node 1 bytes
 unfolding is_empty_node
 block_holes bytes =
     list_all-map is_none (λ slot. block_at (entry_at 1 bytes slot)) slots
@@ -196,10 +196,10 @@ block_group held record_size node bytes fair passes filled =
     ∙ ap (λ (covered : List ℕ). Some (mac_of 1 covered)) (block_pieces record_size bytes passes.whole (fair node.addr bytes passes.there) passes.entries)
     ∙ ap Some passes.mac
 
-above_one : (below : ℕ) → (below + 2 == 1) ≡ false
+pub above_one : (below : ℕ) → (below + 2 == 1) ≡ false
 above_one below = ne_eqb (below + 2) 1 (λ e. omega (arith, e))
 
-entries_above : (below : ℕ) (bytes : List ℕ) (s : ℕ) → entry_at (below + 2) bytes s ≡ entry_at 2 bytes s
+pub entries_above : (below : ℕ) (bytes : List ℕ) (s : ℕ) → entry_at (below + 2) bytes s ≡ entry_at 2 bytes s
 entries_above below bytes s = rw (above_one below) refl
 
 ref_group : (held : List (List ℕ)) (record_size below : ℕ) (node : NodeRef) (bytes : List ℕ) → HoldsBytes held → Passes held record_size (below + 2) node bytes
@@ -256,7 +256,7 @@ pub record Covers (held : List (List ℕ)) (record_size : ℕ) (f : ℕ → Opti
   pub filled : (index depth : ℕ) (place : Place) (bytes : List ℕ) → place_of (below + 1) index ≡ j → place_at held index below top depth ≡ Some place
       → slice_get held place.node.addr ≡ Some bytes → is_empty_node place.level bytes ≡ false
 
-ok_same : {X : Type 0} (x y : X) → (let found : Result X MacError = Ok x in found) ≡ Ok y → x ≡ y
+pub ok_same : {X : Type 0} (x y : X) → (let found : Result X MacError = Ok x in found) ≡ Ok y → x ≡ y
 ok_same x y is = cc
 
 covers_none : (held : List (List ℕ)) (record_size : ℕ) (f : ℕ → Option BlockRef) (below j s : ℕ) → s < 32 → Covers held record_size f (suc below) j None
