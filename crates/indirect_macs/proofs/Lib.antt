@@ -6,3 +6,9 @@ pub mod Groups
 pub mod Spelling
 pub mod FirstPlace
 pub mod Growth
+pub mod FoldOfTree
+pub mod TreeFold
+pub mod RunBounds
+pub mod RunFound
+pub mod RunMade
+pub mod RunNodes

@@ -8,3 +8,4 @@ pub mod Runs
 pub mod Replaced
 pub mod RunFields
 pub mod Steps
+pub mod Trees

@@ -15,6 +15,7 @@ mod replace;
 mod run;
 mod span;
 mod stored;
+mod run_laws;
 mod walk;
 
 pub use fold::fold_mac;
@@ -24,6 +25,7 @@ pub use laws::{
 };
 pub use replace::replace_run;
 pub use refs::{BlockRef, MacError, NodeRef, ObjTree};
+pub use run_laws::{runs_touch_few_nodes, tops_are_folds};
 pub use walk::lookup;
 
 #[cfg(test)]

@@ -1,0 +1,27 @@
+-- What a tree leads to, and trees in which no node without references is stored.
+use Rattle.std.specs.Prelude.{ℕ, ◌+◌, ◌^◌, ◌<◌, ◌≡◌, ◌==◌, Bool, false, List, slice_index, Option, Some, None, Result, Ok}
+use Rattle.std.specs.List.{list_all, slice_get, slice_index_or}
+use Rattle.indirect_macs.specs.declared.refs.BlockRef.{BlockRef}
+use Rattle.indirect_macs.specs.declared.refs.NodeRef.{NodeRef}
+use Rattle.indirect_macs.specs.Nodes.{entry_at, slots}
+use Rattle.indirect_macs.specs.Walk.{walk}
+use Rattle.indirect_macs.specs.Places.{Place, place_at}
+
+-- each held block is of bytes
+abbrev pub HoldsBytes : List (List ℕ) → Type 0
+HoldsBytes held = (address : ℕ) (block : List ℕ) → slice_get held address ≡ Some block → (i : ℕ) → slice_index block i < 256
+
+-- the walk to each block of the tree passes, and gives the reference at its place of the list, or a hole behind the list
+abbrev pub LeadsTo : (held : List (List ℕ)) → (record_size below : ℕ) → Option NodeRef → List (Option BlockRef) → Type 0
+LeadsTo held record_size below top refs =
+    (index : ℕ) → index < 32 ^ (below + 1) → walk held record_size index below top ≡ Ok (slice_index_or refs index None)
+
+-- a node whose 32 entries are holes
+unfoldable pub is_empty_node : (level : ℕ) → (node : List ℕ) → Bool
+is_empty_node level node = list_all (λ slot. slice_index (entry_at level node slot) 0 == 0) slots
+
+-- none of the tree's nodes is such a one
+abbrev pub HasNoEmptyNodes : (held : List (List ℕ)) → (below : ℕ) → Option NodeRef → Type 0
+HasNoEmptyNodes held below top =
+    (index depth : ℕ) (place : Place) (node : List ℕ) → index < 32 ^ (below + 1) → place_at held index below top depth ≡ Some place
+    → slice_get held place.node.addr ≡ Some node → is_empty_node place.level node ≡ false
