@@ -12,3 +12,6 @@ pub mod RunBounds
 pub mod RunFound
 pub mod RunMade
 pub mod RunNodes
+pub mod Buffers
+pub mod Putting
+pub mod Spans

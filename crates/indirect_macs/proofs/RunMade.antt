@@ -24,14 +24,14 @@ pub record IsMade (base : ℕ) (final : List (List ℕ)) (node : Node) (stays r 
   pub is : r ≡ ref_with (base + length front) node stays
   pub put : IsFront (puts_with node stays front) final
 
-with_more : (node : Node) (stays : Option NodeRef) (front : List (List ℕ)) → IsFront front (puts_with node stays front)
+pub with_more : (node : Node) (stays : Option NodeRef) (front : List (List ℕ)) → IsFront front (puts_with node stays front)
 with_more node stays front = by_put (is_put node stays)
   where
     by_put : (b : Bool) → IsFront front (if b then front ++ node.bytes ∷ [] else front)
     by_put true = record { more = node.bytes ∷ []; is = refl }
     by_put false = whole_front front
 
-begun_front : (run : Run) (base level : ℕ) (below : Made) → IsFront below.puts (begun run base level below).puts
+pub begun_front : (run : Run) (base level : ℕ) (below : Made) → IsFront below.puts (begun run base level below).puts
 unfolding begun
 begun_front run base level below =
     by_raised (nat_lt run.levels level && nat_lt 0 (first_at run level)) _ (with_more (inner_of level (below.raised ∷ replicate 31 None)) None below.puts)
@@ -40,7 +40,7 @@ begun_front run base level below =
     by_raised true some front = front
     by_raised false some front = whole_front below.puts
 
-begun_refs : (run : Run) (base level : ℕ) (below : Made) → (begun run base level below).refs ≡ []
+pub begun_refs : (run : Run) (base level : ℕ) (below : Made) → (begun run base level below).refs ≡ []
 unfolding begun
 begun_refs run base level below = by_raised (nat_lt run.levels level && nat_lt 0 (first_at run level)) _ refl
   where
@@ -48,7 +48,7 @@ begun_refs run base level below = by_raised (nat_lt run.levels level && nat_lt 0
     by_raised true some none = none
     by_raised false some none = refl
 
-nodes_front : (run : Run) (old : Old) (base level : ℕ) (below : Made) (i n : ℕ) → i ≤ n
+pub nodes_front : (run : Run) (old : Old) (base level : ℕ) (below : Made) (i n : ℕ) → i ≤ n
     → IsFront (nodes_made run old base level below i).puts (nodes_made run old base level below n).puts
 unfolding nodes_made
 nodes_front run old base level below i zero few =
@@ -99,7 +99,7 @@ nodes_ref run old base level below i (suc n) few =
           ∙ ap (λ (k : ℕ). ref_with (base + length (nodes_made run old base level below k).puts) (new_node run old level below (first_at run level + k)) (kept run old level below (first_at run level + k))) same
     ]
 
-nodes_raised : (run : Run) (old : Old) (base level : ℕ) (below : Made) (n : ℕ) → (nodes_made run old base level below n).raised ≡ (begun run base level below).raised
+pub nodes_raised : (run : Run) (old : Old) (base level : ℕ) (below : Made) (n : ℕ) → (nodes_made run old base level below n).raised ≡ (begun run base level below).raised
 unfolding nodes_made
 nodes_raised run old base level below zero = refl
 nodes_raised run old base level below (suc n) = nodes_raised run old base level below n
@@ -124,7 +124,7 @@ levels_front run old base low (suc high) few =
           rw same (whole_front (levels_made run old base (suc high)).puts)
     ]
 
-put_front : (run : Run) (old : Old) (base level : ℕ) (below : Made) (i n : ℕ) → i < n
+pub put_front : (run : Run) (old : Old) (base level : ℕ) (below : Made) (i n : ℕ) → i < n
     → IsFront (puts_with (new_node run old level below (first_at run level + i)) (kept run old level below (first_at run level + i)) (nodes_made run old base level below i).puts)
     (nodes_made run old base level below n).puts
 unfolding nodes_made

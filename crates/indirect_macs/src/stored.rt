@@ -24,12 +24,12 @@ fn put_block(entry: &mut [u8], block: &Option<BlockRef>)
     let Some(block) = block else {
         return;
     };
-    entry[0] = 1;
-    put_u32(entry, 1, block.size);
-    put_u64(entry, 5, block.addr);
-    entry[13..21].copy_from_slice(&block.salt);
-    entry[21..33].copy_from_slice(&block.iv);
     entry[33..49].copy_from_slice(&block.mac);
+    entry[21..33].copy_from_slice(&block.iv);
+    entry[13..21].copy_from_slice(&block.salt);
+    put_u64(entry, 5, block.addr);
+    put_u32(entry, 1, block.size);
+    entry[0] = 1;
 }
 
 fn put_ref(entry: &mut [u8], node: &Option<NodeRef>)
@@ -39,9 +39,9 @@ fn put_ref(entry: &mut [u8], node: &Option<NodeRef>)
     let Some(node) = node else {
         return;
     };
-    entry[0] = 1;
-    put_u64(entry, 1, node.addr);
     entry[9..25].copy_from_slice(&node.mac);
+    put_u64(entry, 1, node.addr);
+    entry[0] = 1;
 }
 
 fn leaf_bytes(entries: &[Option<BlockRef>; 32]) -> [u8; ENTRIES * BLOCK_ENTRY_LEN]
