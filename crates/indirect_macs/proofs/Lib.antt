@@ -15,3 +15,5 @@ pub mod RunNodes
 pub mod Buffers
 pub mod Putting
 pub mod Spans
+pub mod RunReading
+pub mod RunSpans

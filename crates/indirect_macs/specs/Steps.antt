@@ -17,6 +17,21 @@ pub record Reads (most : ℕ) (fault : Bool) (old new : ShelfState) : Type 0 whe
   pub after : new ≡ after_calls calls old
   pub faults : fault ≡ fails_within calls old.armed
 
+-- a node failed
+abbrev pub IsMacFailed : MacError → Type 0
+IsMacFailed (MacFailed level place) = ⊤
+IsMacFailed ShelfFault = ⊥
+IsMacFailed Full = ⊥
+IsMacFailed NoMemory = ⊥
+
+-- the place at which a walk fails
+abbrev pub failure_of : {X : Type 0} → Result X MacError → Option MacError
+failure_of (Ok x) = None
+failure_of (Err (MacFailed level place)) = Some (MacFailed level place)
+failure_of (Err ShelfFault) = None
+failure_of (Err Full) = None
+failure_of (Err NoMemory) = None
+
 -- no node failed, and the shelf isn't full
 abbrev pub IsStop : MacError → Type 0
 IsStop (MacFailed level place) = ⊥

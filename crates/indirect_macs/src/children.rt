@@ -1,11 +1,11 @@
 // The old tree below the touched nodes, read from the top down.
-ghost use Rattle.std.specs.Prelude.{◌≡◌, ℕ, ◌+◌, ◌-◌, ◌*◌, ◌^◌, ◌<◌, ◌≤◌, List, length, map, take, Some, None, Ok, Err, IfSome, IfOk, IfErr};
+ghost use Rattle.std.specs.Prelude.{◌≡◌, ℕ, ◌+◌, ◌-◌, ◌*◌, ◌^◌, ◌<◌, ◌≤◌, List, Option, false, length, map, take, Some, None, Ok, Err, IfSome, IfOk, IfErr};
 ghost use Rattle.indirect_macs.specs.Entries.{block_at, node_at};
 ghost use Rattle.indirect_macs.specs.Nodes.{entry_at, slots};
 ghost use Rattle.indirect_macs.specs.Calls.{is_fault};
 ghost use Rattle.indirect_macs.specs.RunFields.{run_of};
-ghost use Rattle.indirect_macs.specs.Runs.{child_of, count_at, entries_at, first_at, found_at};
-ghost use Rattle.indirect_macs.specs.Steps.{AreLeaves, IsLeaf, IsRange, IsStop, Reads};
+ghost use Rattle.indirect_macs.specs.Runs.{child_of, count_at, entries_at, first_at, found_at, or_hole};
+ghost use Rattle.indirect_macs.specs.Steps.{AreLeaves, IsLeaf, IsMacFailed, IsRange, IsStop, Reads, failure_of};
 
 use crate::entry::{BLOCK_ENTRY_LEN, NODE_ENTRY_LEN, block_at, node_at};
 use crate::node::ENTRIES;
@@ -18,6 +18,29 @@ use std::alloc::Global;
 
 /// What the walk to a node finds in the node above it, or where it fails.
 pub type Found = Result<Option<NodeRef>, MacError>;
+
+pub fn or_hole(found: &Found) -> Option<NodeRef>
+    ensures { result ≡ or_hole found.now }
+{
+    match found {
+        Ok(node) => *node,
+        Err(_) => None,
+    }
+}
+
+// The place at which a walk fails.
+fn failure(found: &Found) -> Option<MacError>
+    ensures value { result ≡ failure_of found.now }
+    ensures quiet { IfSome result (λ failed. IsMacFailed failed) }
+{
+    match found {
+        Err(MacError::MacFailed { level, index }) => Some(MacError::MacFailed {
+            level: *level,
+            index: *index,
+        }),
+        _ => None,
+    }
+}
 
 // The first block over a node.
 fn block_over(level: u8, index: u32) -> u32
@@ -161,13 +184,14 @@ fn blocks_below<B: Shelf>(
     ensures told { IfSome (B.told shelf.old).held (λ held. found.now ≡ found_at held run.now.block (run_of run.now) 1 index
         → IsLeaf held run.now.block (run_of run.now) index result) }
 {
-    let node = match found {
-        Ok(Some(node)) => node,
-        Ok(None) => return Ok([None; ENTRIES]),
-        Err(failed) => return Err(*failed),
+    if let Some(failed) = failure(found) {
+        return Err(failed);
+    }
+    let Some(node) = or_hole(found) else {
+        return Ok([None; ENTRIES]);
     };
     let mut bytes = [0; ENTRIES * BLOCK_ENTRY_LEN];
-    match read_node(shelf, node, 1, block_over(1, index), run.block, &mut bytes) {
+    match read_node(shelf, &node, 1, block_over(1, index), run.block, &mut bytes) {
         Ok(()) => Ok(blocks_in(&bytes)),
         Err(stop) => Err(stop),
     }

@@ -10,7 +10,7 @@ ghost use Rattle.indirect_macs.specs.Runs.{Made as Outcome, Old, begun, count_at
 ghost use Rattle.indirect_macs.specs.Replaced.{Changes, Replaced};
 ghost use Rattle.indirect_macs.specs.Steps.{AllWalk, FirstOf, HasPut, IsRange, Knows, LevelsPut, LevelsRun, Puts};
 
-use crate::children::{Found, read_blocks, read_children};
+use crate::children::{Found, or_hole, read_blocks, read_children};
 use crate::node::ENTRIES;
 use crate::refs::{BlockRef, MacError, NodeRef, ObjTree};
 use crate::run::Run;
@@ -25,15 +25,6 @@ use std::alloc::Global;
 struct Made {
     refs: Vec<Option<NodeRef>>,
     raised: Option<NodeRef>,
-}
-
-fn or_hole(found: &Found) -> Option<NodeRef>
-    ensures { result ≡ or_hole found.now }
-{
-    match found {
-        Ok(node) => *node,
-        Err(_) => None,
-    }
 }
 
 // The new reference to a block, whose old one is given.
