@@ -1,6 +1,6 @@
 -- What the reading of a touched node gives of the old tree, over plain variables.
 use Rattle.std.proofs.Common.{◌≡◌, ℕ, zero, suc, ◌+◌, ◌-◌, ◌*◌, ◌/◌, ◌%◌, ◌^◌, ◌<◌, ◌≤◌, Bool, true, false, ◌==◌, List, [], ◌∷◌, ◌++◌, length, map, replicate, get_or, refl, sym, ap, subst, ◌∙◌, inl, inr, arith, Option, Some, None, Result, Ok, Err, if◌then◌else◌}
-use Rattle.std.specs.Prelude.{IfSome, IfOk, IsOk, ⊤}
+use Rattle.std.specs.Prelude.{IfSome, IfOk, IfErr, IsOk, ⊤}
 use Rattle.std.specs.Option.{option_map_or}
 use Rattle.std.specs.List.{range_with_len}
 use Rattle.std.proofs.lemmas.Bool.{cases_lt, ne_eqb}
@@ -14,10 +14,12 @@ use Rattle.indirect_macs.specs.declared.refs.MacError.TheVariants.{MacFailed, Sh
 use Rattle.indirect_macs.specs.Entries.{node_at, block_at}
 use Rattle.indirect_macs.specs.Nodes.{slots, entry_at}
 use Rattle.indirect_macs.specs.Walk.{passed, goes_on, walk, next_block, fails_at, tested, place_of, slot_of}
-use Rattle.indirect_macs.specs.Calls.{Gave, IsOver, fails_within, is_fault}
+use Rattle.indirect_macs.specs.Calls.{Gave, Answers, IsOver, fails_within, is_fault}
 use Rattle.indirect_macs.specs.Runs.{Run, Old, first_at, old_of, child_of, found_below, found_at, walk_to, entries_at, or_hole}
-use Rattle.indirect_macs.specs.Steps.{Reads, IsRange, IsLeaf, AllWalk, FirstOf, IsMacFailed, failure_of}
-use Rattle.indirect_macs.proofs.Walking.{after_more, fails_more}
+use Rattle.indirect_macs.specs.Steps.{Reads, IsRange, IsLeaf, AreLeaves, IsLeafAdded, IsStop, spread, AllWalk, FirstOf, IsMacFailed, failure_of}
+use Rattle.indirect_macs.proofs.Walking.{after_more, fails_more, held_kept}
+use Rattle.indirect_macs.proofs.Reading.{both}
+use Rattle.indirect_macs.proofs.Spans.{more_entries, one_of_range}
 use Rattle.indirect_macs.proofs.TreeFold.{map_same, lowest_slot, lowest_place, walk_last, walk_none}
 use Rattle.indirect_macs.proofs.RunFound.{found_child, found_within, found_above, found_top, walk_by_place}
 
@@ -85,6 +87,26 @@ child_failed held record_size level index place calls node stop s t failed over 
     same_all each (λ slot. child_of held record_size level (32 * index + slot) (Some node)) (λ k within.
     let slot : (32 * index + k) / 32 ≡ index = omega (arith, within) in
     rw (is.0, slot) (ap (λ (e : MacError). Err e) (is.1 ∙ ap (MacFailed level) over)))
+
+pub spread_reads : {X : Type 0} (levels place : ℕ) (stop : MacError) (s t : ShelfState) → Answers {X = X} levels 1 place (Err stop) s t → Reads 1 (is_fault (spread stop)) s t
+spread_reads levels place (MacFailed level at) s t is = record { calls = is.calls; bound = is.bound; after = is.after; faults = is.fault }
+spread_reads levels place ShelfFault s t is = record { calls = is.calls; bound = is.bound; after = is.after; faults = is.fault }
+spread_reads levels place Full s t is = record { calls = is.calls; bound = is.bound; after = is.after; faults = is.fault }
+spread_reads levels place NoMemory s t is = record { calls = is.calls; bound = is.bound; after = is.after; faults = is.fault }
+
+pub spread_stops : {X : Type 0} (levels place : ℕ) (stop : MacError) (s t : ShelfState) → Answers {X = X} levels 1 place (Err stop) s t → IfErr (spread stop) IsStop
+spread_stops levels place (MacFailed level at) s t is = tt
+spread_stops levels place ShelfFault s t is = tt
+spread_stops levels place Full s t is = absurd is.failure
+spread_stops levels place NoMemory s t is = tt
+
+pub spread_told : (held : List (List ℕ)) (record_size level index place calls : ℕ) (node : NodeRef) (stop : MacError) (s t : ShelfState)
+    → place / 32 ^ level ≡ index → Gave {X = Unit {0}} calls (tested held record_size place level node) (Err stop) s t
+    → IfOk (spread stop) (λ found. found ≡ entries_at (λ i. child_of held record_size level i (Some node)) index)
+spread_told held record_size level index place calls node (MacFailed l at) s t over gave = child_failed held record_size level index place calls node (MacFailed l at) s t tt over gave
+spread_told held record_size level index place calls node ShelfFault s t over gave = tt
+spread_told held record_size level index place calls node Full s t over gave = tt
+spread_told held record_size level index place calls node NoMemory s t over gave = tt
 
 -- ---- from a node to its children
 
@@ -290,3 +312,78 @@ pub record AreBlocks (block : ℕ) (run : Run) (i : ℕ) (old : List (Result (Op
   pub size : length blocks ≡ 32 * i
   pub told : IfSome start.held (λ held. IsRange (found_at held block run 1) (first_at run 1) (length old) old
       → IsRange (old_of held block run).block (32 * first_at run 1) (32 * i) blocks × AllWalk held block run (first_at run 1) i)
+
+held_same : (n : ℕ) (fault : Bool) (s t : ShelfState) → Reads n fault s t → t.held ≡ s.held
+held_same n fault s t reads = ap (λ (state : ShelfState). state.held) reads.after ∙ held_kept reads.calls s
+
+-- one more node
+pub children_more : (block : ℕ) (run : Run) (level i index : ℕ) (old children after : List (Result (Option NodeRef) MacError)) (found : Result (Option NodeRef) MacError) (s t u : ShelfState)
+    → AreChildren block run level i old children s t → index ≡ first_at run level + i → i < length old → found ≡ get_or old i (Ok None)
+    → Reads 1 false t u → (run.levels < level → u ≡ t) → length after ≡ length children + 32
+    → IfSome t.held (λ held. found ≡ found_at held block run level index → after ≡ children ++ entries_at (found_at held block run (level - 1)) index)
+    → AreChildren block run level (i + 1) old after s u
+children_more block run level i index old children after found s t u so place within is reads hole size told =
+    let told_s : IfSome s.held (λ held. found ≡ found_at held block run level index → after ≡ children ++ entries_at (found_at held block run (level - 1)) index) =
+    rw (held_same i false s t so.reads) at told in
+    record {
+      reads = reads_more i 1 false s t u so.reads reads;
+      hole = λ high. hole high ∙ so.hole high;
+      size = omega (arith, size, so.size);
+      told = both s.held so.told told_s (λ held before this range.
+          let own : found ≡ found_at held block run level index =
+          is ∙ one_of_range (found_at held block run level) (first_at run level) (length old) i old (Ok None) within range ∙ ap (found_at held block run level) (sym place) in
+          rw (this own, place) (more_entries (found_at held block run (level - 1)) (first_at run level) i children
+          (entries_at (found_at held block run (level - 1)) (first_at run level + i)) (before range) refl));
+    }
+
+pub blocks_more : {X : Type 0} (block : ℕ) (run : Run) (i index : ℕ) (old : List (Result (Option NodeRef) MacError)) (blocks after : List (Option BlockRef)) (found : Result (Option NodeRef) MacError) (x : X) (s t u : ShelfState)
+    → AreBlocks block run i old blocks s t → index ≡ first_at run 1 + i → i < length old → found ≡ get_or old i (Ok None)
+    → Reads 1 false t u → length after ≡ length blocks + 32
+    → IfSome t.held (λ held. found ≡ found_at held block run 1 index → IsLeafAdded {X = X} held block run index (Ok x) blocks after)
+    → AreBlocks block run (i + 1) old after s u
+blocks_more block run i index old blocks after found x s t u so place within is reads size told =
+    let told_s : IfSome s.held (λ held. found ≡ found_at held block run 1 index → IsLeafAdded {X = _} held block run index (Ok x) blocks after) =
+    rw (held_same i false s t so.reads) at told in
+    record {
+      reads = reads_more i 1 false s t u so.reads reads;
+      size = omega (arith, size, so.size);
+      told = both s.held so.told told_s (λ held before this range.
+          let own : found ≡ found_at held block run 1 index =
+          is ∙ one_of_range (found_at held block run 1) (first_at run 1) (length old) i old (Ok None) within range ∙ ap (found_at held block run 1) (sym place) in
+          let leaf = this own in
+          (rw (leaf.0, place) (more_entries (old_of held block run).block (first_at run 1) i blocks
+          (entries_at (old_of held block run).block (first_at run 1 + i)) (before range).0 refl),
+          λ j low high. elim (cases_lt j (first_at run 1 + i)) [
+            | inl less ↦ (before range).1 j low less
+            | inr last ↦
+                let same : j ≡ index = omega (arith, place, high, last) in
+                rw same leaf.1
+          ]));
+    }
+
+-- a node that ends the reading
+pub blocks_stop : {X Y : Type 0} (items : Y → List (Option BlockRef)) (block : ℕ) (run : Run) (i index : ℕ) (old : List (Result (Option NodeRef) MacError)) (blocks after : List (Option BlockRef)) (found : Result (Option NodeRef) MacError) (stop : MacError) (s t : ShelfState)
+    → AreBlocks block run i old blocks s t → index ≡ first_at run 1 + i → i < length old → found ≡ get_or old i (Ok None)
+    → IfSome t.held (λ held. found ≡ found_at held block run 1 index → IsLeafAdded {X = X} held block run index (Err stop) blocks after)
+    → IfSome s.held (λ held. IsRange (found_at held block run 1) (first_at run 1) (length old) old → AreLeaves {X = Y} items held block run (first_at run 1) (length old) (Err stop))
+blocks_stop {X = X} {Y = Y} items block run i index old blocks after found stop s t so place within is told =
+    let told_s : IfSome s.held (λ held. found ≡ found_at held block run 1 index → IsLeafAdded {X = X} held block run index (Err stop) blocks after) =
+    rw (held_same i false s t so.reads) at told in
+    both s.held so.told told_s (λ held before this range.
+    let own : found ≡ found_at held block run 1 index =
+    is ∙ one_of_range (found_at held block run 1) (first_at run 1) (length old) i old (Ok None) within range ∙ ap (found_at held block run 1) (sym place) in
+    by_stop held stop (this own) (before range).1)
+  where
+    by_stop : (held : List (List ℕ)) (e : MacError) → IsLeafAdded {X = X} held block run index (Err e) blocks after → AllWalk held block run (first_at run 1) i
+        → AreLeaves {X = Y} items held block run (first_at run 1) (length old) (Err e)
+    by_stop held (MacFailed level at) fails before =
+        record {
+          at = index;
+          low = omega (arith, place);
+          high = omega (arith, place, within);
+          fails = fails;
+          before = λ j low less. before j low (omega (arith, place, less));
+        }
+    by_stop held ShelfFault fails before = tt
+    by_stop held Full fails before = fails
+    by_stop held NoMemory fails before = tt

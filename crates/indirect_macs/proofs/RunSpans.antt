@@ -1,7 +1,9 @@
 -- How many nodes a run touches, and how their ranges lie.
 use Rattle.std.proofs.Common.{◌≡◌, ℕ, zero, suc, ◌+◌, ◌-◌, ◌*◌, ◌/◌, ◌^◌, ◌<◌, ◌≤◌, Bool, true, false, nat_lt, length, refl, sym, ap, ◌∙◌, inl, inr, arith, if◌then◌else◌}
 use Rattle.std.proofs.lemmas.Bool.{cases_lt}
-use Rattle.std.proofs.Math.Nat.{div-le_self}
+use Rattle.std.proofs.Math.Nat.{div-le_self, div-mul-le_self, mul-le-mul_right}
+use Rattle.std.proofs.lemmas.Nat.{le-div}
+use Rattle.indirect_macs.proofs.FoldOfTree.{power_least}
 use Rattle.indirect_macs.specs.Runs.{Run, first_block, last_block, first_at, last_at, count_at}
 use Rattle.indirect_macs.specs.Walk.{place_of}
 use Rattle.indirect_macs.proofs.TreeFold.{child_place}
@@ -37,6 +39,18 @@ unfolding count_at
 count_small run level within most = omega (arith, last_at_small run level within most)
 
 -- the place of a touched node of a level is within the run
-pub touched_last : (run : Run) (level i : ℕ) → i < count_at run level → first_at run level + i ≤ last_at run level ⊎ (last_at run level < first_at run level)
-unfolding count_at
-touched_last run level i within = elim (cases_lt (last_at run level) (first_at run level)) [ | inl less ↦ inr less | inr not ↦ inl (omega (arith, within, not)) ]
+pub touched_last : (run : Run) (level i : ℕ) → i < count_at run level → first_at run level + i ≤ last_at run level
+unfolding count_at first_at last_at
+touched_last run level i within =
+    let least = power_least level in
+    let whole : first_block run / 32 ^ level * 32 ^ level ≤ first_block run = div-mul-le_self (first_block run) (32 ^ level) in
+    let order : first_block run / 32 ^ level ≤ last_block run / 32 ^ level =
+    le-div (first_block run / 32 ^ level) (last_block run) (32 ^ level) (omega (arith, least)) (omega (arith, whole, first_under_last run)) in
+    omega (arith, order, within)
+
+pub touched_fits : (run : Run) (level i : ℕ) → run.from + length run.refs ≤ run.blocks → run.blocks ≤ 8388608 → i < count_at run level
+    → (first_at run level + i) * 32 ^ level < 4294967296
+unfolding last_at
+touched_fits run level i within most few =
+    let low : (first_at run level + i) * 32 ^ level ≤ last_block run / 32 ^ level * 32 ^ level = mul-le-mul_right (32 ^ level) (touched_last run level i few) in
+    omega (arith, low, div-mul-le_self (last_block run) (32 ^ level), last_small run within most)

@@ -1,5 +1,5 @@
 -- What the steps of putting a run into a tree leave of a shelf.
-use Rattle.std.specs.Prelude.{ℕ, ◌+◌, ◌-◌, ◌*◌, ◌<◌, ◌≤◌, ◌≡◌, Bool, true, false, List, [], ◌∷◌, ◌++◌, length, map, min, IfOk, Option, Some, None, Result, Ok, Err, IsOk, ⊤}
+use Rattle.std.specs.Prelude.{ℕ, ◌+◌, ◌-◌, ◌*◌, ◌<◌, ◌≤◌, ◌≡◌, Bool, true, false, List, [], ◌∷◌, ◌++◌, length, map, replicate, min, IfOk, Option, Some, None, Result, Ok, Err, IsOk, ⊤}
 use Rattle.std.specs.List.{range_with_len}
 use Rattle.shelf_store.specs.ShelfState.{ShelfState, after_calls}
 use Rattle.indirect_macs.specs.declared.refs.BlockRef.{BlockRef}
@@ -32,6 +32,13 @@ failure_of (Err ShelfFault) = None
 failure_of (Err Full) = None
 failure_of (Err NoMemory) = None
 
+-- a node that fails is where the walk to each of its children fails
+abbrev pub spread : MacError → Result (List (Result (Option NodeRef) MacError)) MacError
+spread (MacFailed level place) = Ok (replicate 32 (Err (MacFailed level place)))
+spread ShelfFault = Err ShelfFault
+spread Full = Err Full
+spread NoMemory = Err NoMemory
+
 -- no node failed, and the shelf isn't full
 abbrev pub IsStop : MacError → Type 0
 IsStop (MacFailed level place) = ⊥
@@ -51,6 +58,15 @@ IsLeaf held record_size run index (Err (MacFailed level place)) = walk_to held r
 IsLeaf held record_size run index (Err ShelfFault) = ⊤
 IsLeaf held record_size run index (Err Full) = ⊥
 IsLeaf held record_size run index (Err NoMemory) = ⊤
+
+-- the same, where they are put behind others
+abbrev pub IsLeafAdded : {X : Type 0} → (held : List (List ℕ)) → (record_size : ℕ) → Run → (index : ℕ) → Result X MacError → (before after : List (Option BlockRef)) → Type 0
+IsLeafAdded held record_size run index (Ok x) before after =
+    (after ≡ before ++ entries_at (old_of held record_size run).block index) × IsOk (walk_to held record_size run (32 * index))
+IsLeafAdded held record_size run index (Err (MacFailed level place)) before after = walk_to held record_size run (32 * index) ≡ Err (MacFailed level place)
+IsLeafAdded held record_size run index (Err ShelfFault) before after = ⊤
+IsLeafAdded held record_size run index (Err Full) before after = ⊥
+IsLeafAdded held record_size run index (Err NoMemory) before after = ⊤
 
 -- the walks to so many nodes of level 1 pass
 abbrev pub AllWalk : (held : List (List ℕ)) → (record_size : ℕ) → Run → (from count : ℕ) → Type 0

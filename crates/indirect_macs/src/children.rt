@@ -1,11 +1,11 @@
 // The old tree below the touched nodes, read from the top down.
-ghost use Rattle.std.specs.Prelude.{◌≡◌, ℕ, ◌+◌, ◌-◌, ◌*◌, ◌^◌, ◌<◌, ◌≤◌, List, Option, false, length, map, take, Some, None, Ok, Err, IfSome, IfOk, IfErr};
+ghost use Rattle.std.specs.Prelude.{◌≡◌, ℕ, ◌+◌, ◌-◌, ◌*◌, ◌^◌, ◌<◌, ◌≤◌, ◌++◌, List, Option, false, length, map, take, Some, None, Ok, Err, IfSome, IfOk, IfErr};
 ghost use Rattle.indirect_macs.specs.Entries.{block_at, node_at};
 ghost use Rattle.indirect_macs.specs.Nodes.{entry_at, slots};
 ghost use Rattle.indirect_macs.specs.Calls.{is_fault};
 ghost use Rattle.indirect_macs.specs.RunFields.{run_of};
 ghost use Rattle.indirect_macs.specs.Runs.{child_of, count_at, entries_at, first_at, found_at, or_hole};
-ghost use Rattle.indirect_macs.specs.Steps.{AreLeaves, IsLeaf, IsMacFailed, IsRange, IsStop, Reads, failure_of};
+ghost use Rattle.indirect_macs.specs.Steps.{AreLeaves, IsLeaf, IsLeafAdded, IsMacFailed, IsRange, IsStop, Reads, failure_of, spread};
 
 use crate::entry::{BLOCK_ENTRY_LEN, NODE_ENTRY_LEN, block_at, node_at};
 use crate::node::ENTRIES;
@@ -88,6 +88,18 @@ fn found_above(run: &Run, level: u8, index: u32) -> [Found; 32]
     found
 }
 
+// A node that fails is where the walk to each of its children fails.
+fn spread(stop: MacError) -> Result<[Found; 32], MacError>
+    ensures { result ≡ spread stop }
+{
+    match stop {
+        MacError::MacFailed { .. } => Ok([Err(stop); ENTRIES]),
+        MacError::ShelfFault => Err(stop),
+        MacError::Full => Err(stop),
+        MacError::NoMemory => Err(stop),
+    }
+}
+
 // What is found below a node of the old tree.
 fn found_in<B: Shelf>(
     run: &Run,
@@ -107,10 +119,29 @@ fn found_in<B: Shelf>(
     let mut bytes = [0; ENTRIES * NODE_ENTRY_LEN];
     match read_node(shelf, node, level, block_over(level, index), run.block, &mut bytes) {
         Ok(()) => Ok(refs_in(&bytes)),
-        Err(MacError::MacFailed { level, index }) => {
-            Ok([Err(MacError::MacFailed { level, index }); ENTRIES])
-        }
-        Err(stop) => Err(stop),
+        Err(stop) => spread(stop),
+    }
+}
+
+// What is found below a place of the old tree.
+fn found_from<B: Shelf>(
+    run: &Run,
+    shelf: &mut B,
+    level: u8,
+    index: u32,
+    node: &Option<NodeRef>,
+) -> Result<[Found; 32], MacError>
+    requires above { 2 ≤ level }
+    requires levels { level ≤ run.now.tree.levels }
+    requires fits { index * 32 ^ level < 2 ^ 32 }
+    ensures reads { Reads 1 (is_fault result) (B.told shelf.old) (B.told shelf.new) }
+    ensures stops { IfErr result IsStop }
+    ensures told { IfSome (B.told shelf.old).held (λ held. Ok node.now ≡ found_at held run.now.block (run_of run.now) level index
+        → IfOk result (λ found. found ≡ entries_at (found_at held run.now.block (run_of run.now) (level - 1)) index)) }
+{
+    match node {
+        Some(node) => found_in(run, shelf, level, index, node),
+        None => Ok([Ok(None); ENTRIES]),
     }
 }
 
@@ -135,9 +166,43 @@ fn found_below<B: Shelf>(
         return Ok(found_above(run, level, index));
     }
     match found {
-        Ok(Some(node)) => found_in(run, shelf, level, index, node),
-        Ok(None) => Ok([Ok(None); ENTRIES]),
+        Ok(node) => found_from(run, shelf, level, index, node),
         Err(failed) => Ok([Err(*failed); ENTRIES]),
+    }
+}
+
+fn append<T: Copy>(list: &mut Vec<T>, more: &[T]) -> Result<(), MacError>
+    ensures all { IfOk result (λ _. list.new.items ≡ list.old.items ++ more.now) }
+    ensures stop { IfErr result (λ stop. stop ≡ MacError.NoMemory) }
+{
+    match list.extend_from_slice(more) {
+        Ok(()) => Ok(()),
+        Err(_) => Err(MacError::NoMemory),
+    }
+}
+
+// Adds what is found below a node to which the walk came.
+fn add_children<B: Shelf>(
+    run: &Run,
+    shelf: &mut B,
+    level: u8,
+    index: u32,
+    found: &Found,
+    children: &mut Vec<Found>,
+) -> Result<(), MacError>
+    requires above { 2 ≤ level }
+    requires levels { level ≤ 5 }
+    requires fits { index * 32 ^ level < 2 ^ 32 }
+    ensures reads { Reads 1 (is_fault result) (B.told shelf.old) (B.told shelf.new) }
+    ensures hole { run.now.tree.levels < level → B.told shelf.new ≡ B.told shelf.old }
+    ensures stops { IfErr result IsStop }
+    ensures size { IfOk result (λ _. length children.new.items ≡ length children.old.items + 32) }
+    ensures told { IfSome (B.told shelf.old).held (λ held. found.now ≡ found_at held run.now.block (run_of run.now) level index
+        → IfOk result (λ _. children.new.items ≡ children.old.items ++ entries_at (found_at held run.now.block (run_of run.now) (level - 1)) index)) }
+{
+    match found_below(run, shelf, level, index, found) {
+        Ok(found) => append(children, &found),
+        Err(stop) => Err(stop),
     }
 }
 
@@ -164,9 +229,8 @@ pub fn read_children<B: Shelf>(
     let first = first_at(run, level);
     let mut children = Vec::new(alloc);
     'nodes: for i in 0..old.len() {
-        match found_below(run, shelf, level, first + i as u32, &old[i]) {
-            Ok(found) => children.extend_from_slice(&found)?,
-            Err(stop) => return Err(stop),
+        if let Err(stop) = add_children(run, shelf, level, first + i as u32, &old[i], &mut children) {
+            return Err(stop);
         }
     }
     Ok(children)
@@ -197,6 +261,26 @@ fn blocks_below<B: Shelf>(
     }
 }
 
+// Adds the old blocks of a node of level 1 to which the walk came.
+fn add_blocks<B: Shelf>(
+    run: &Run,
+    shelf: &mut B,
+    index: u32,
+    found: &Found,
+    blocks: &mut Vec<Option<BlockRef>>,
+) -> Result<(), MacError>
+    requires fits { index * 32 < 2 ^ 32 }
+    ensures reads { Reads 1 (is_fault result) (B.told shelf.old) (B.told shelf.new) }
+    ensures size { IfOk result (λ _. length blocks.new.items ≡ length blocks.old.items + 32) }
+    ensures told { IfSome (B.told shelf.old).held (λ held. found.now ≡ found_at held run.now.block (run_of run.now) 1 index
+        → IsLeafAdded held run.now.block (run_of run.now) index result blocks.old.items blocks.new.items) }
+{
+    match blocks_below(run, shelf, index, found) {
+        Ok(found) => append(blocks, &found),
+        Err(stop) => Err(stop),
+    }
+}
+
 /// The old blocks of the touched nodes of level 1, 32 for each.
 ///
 /// # Errors
@@ -218,9 +302,8 @@ pub fn read_blocks<B: Shelf>(
     let first = first_at(run, 1);
     let mut blocks = Vec::new(alloc);
     'nodes: for i in 0..old.len() {
-        match blocks_below(run, shelf, first + i as u32, &old[i]) {
-            Ok(found) => blocks.extend_from_slice(&found)?,
-            Err(stop) => return Err(stop),
+        if let Err(stop) = add_blocks(run, shelf, first + i as u32, &old[i], &mut blocks) {
+            return Err(stop);
         }
     }
     Ok(blocks)
