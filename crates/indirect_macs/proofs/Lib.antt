@@ -17,3 +17,4 @@ pub mod Putting
 pub mod Spans
 pub mod RunReading
 pub mod RunSpans
+pub mod RunPutting

@@ -362,11 +362,11 @@ blocks_more block run i index old blocks after found x s t u so place within is 
     }
 
 -- a node that ends the reading
-pub blocks_stop : {X Y : Type 0} (items : Y → List (Option BlockRef)) (block : ℕ) (run : Run) (i index : ℕ) (old : List (Result (Option NodeRef) MacError)) (blocks after : List (Option BlockRef)) (found : Result (Option NodeRef) MacError) (stop : MacError) (s t : ShelfState)
+pub blocks_stop : (X Y : Type 0) (items : Y → List (Option BlockRef)) (block : ℕ) (run : Run) (i index : ℕ) (old : List (Result (Option NodeRef) MacError)) (blocks after : List (Option BlockRef)) (found : Result (Option NodeRef) MacError) (stop : MacError) (s t : ShelfState)
     → AreBlocks block run i old blocks s t → index ≡ first_at run 1 + i → i < length old → found ≡ get_or old i (Ok None)
     → IfSome t.held (λ held. found ≡ found_at held block run 1 index → IsLeafAdded {X = X} held block run index (Err stop) blocks after)
     → IfSome s.held (λ held. IsRange (found_at held block run 1) (first_at run 1) (length old) old → AreLeaves {X = Y} items held block run (first_at run 1) (length old) (Err stop))
-blocks_stop {X = X} {Y = Y} items block run i index old blocks after found stop s t so place within is told =
+blocks_stop X Y items block run i index old blocks after found stop s t so place within is told =
     let told_s : IfSome s.held (λ held. found ≡ found_at held block run 1 index → IsLeafAdded {X = X} held block run index (Err stop) blocks after) =
     rw (held_same i false s t so.reads) at told in
     both s.held so.told told_s (λ held before this range.

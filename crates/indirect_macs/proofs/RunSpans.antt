@@ -54,3 +54,22 @@ unfolding last_at
 touched_fits run level i within most few =
     let low : (first_at run level + i) * 32 ^ level ≤ last_block run / 32 ^ level * 32 ^ level = mul-le-mul_right (32 ^ level) (touched_last run level i few) in
     omega (arith, low, div-mul-le_self (last_block run) (32 ^ level), last_small run within most)
+
+-- the children of the touched nodes that are touched themselves
+pub first_child : (run : Run) (level : ℕ) → 1 ≤ level → (32 * first_at run level ≤ first_at run (level - 1)) × (first_at run (level - 1) ≤ last_at run (level - 1))
+    × (last_at run (level - 1) < 32 * last_at run level + 32)
+unfolding first_at last_at
+first_child run level above =
+    let own : level - 1 + 1 ≡ level = omega (arith, above) in
+    let low : place_of (level - 1) (first_block run) / 32 ≡ place_of level (first_block run) = rw own at (child_place (level - 1) (first_block run)) in
+    let high : place_of (level - 1) (last_block run) / 32 ≡ place_of level (last_block run) = rw own at (child_place (level - 1) (last_block run)) in
+    (omega (arith, low), at_least (level - 1), omega (arith, high))
+  where
+    at_least : (k : ℕ) → first_block run / 32 ^ k ≤ last_block run / 32 ^ k
+    at_least k =
+        le-div (first_block run / 32 ^ k) (last_block run) (32 ^ k) (omega (arith, power_least k))
+        (omega (arith, div-mul-le_self (first_block run) (32 ^ k), first_under_last run))
+
+pub count_is : (run : Run) (level : ℕ) → count_at run level ≡ last_at run level - first_at run level + 1
+unfolding count_at
+count_is run level = refl

@@ -8,7 +8,7 @@ use Rattle.indirect_macs.specs.declared.refs.MacError.{MacError}
 use Rattle.indirect_macs.specs.declared.refs.MacError.TheVariants.{MacFailed, ShelfFault, Full, NoMemory}
 use Rattle.indirect_macs.specs.Calls.{fails_within, is_fault}
 use Rattle.indirect_macs.specs.Replaced.{with_blocks, IsTooMuch}
-use Rattle.indirect_macs.specs.Runs.{Run, Old, Made, count_at, first_at, levels_for, levels_made, touched_below, old_of, entries_at, or_hole, walk_to, found_at}
+use Rattle.indirect_macs.specs.Runs.{Run, Old, Made, Node, ref_with, puts_with, count_at, first_at, levels_for, levels_made, touched_below, old_of, entries_at, or_hole, walk_to, found_at}
 
 -- some calls were made, at most so many, of which one was the armed one or not; nothing was put
 pub record Reads (most : ℕ) (fault : Bool) (old new : ShelfState) : Type 0 where
@@ -141,3 +141,11 @@ LevelsRun refs raised held record_size run level (Err ShelfFault) old new =
 LevelsRun refs raised held record_size run level (Err NoMemory) old new =
     LevelsPut refs raised (touched_below run (min level run.levels))
     (levels_made run (old_of held record_size run) (length old.sizes) (min level (levels_for run.blocks))) (Err NoMemory) old new
+
+-- one more node of a level
+abbrev pub added : (base : ℕ) → Node → Option NodeRef → Made → Made
+added base node stays made = record {
+  refs = made.refs ++ ref_with (base + length made.puts) node stays ∷ [];
+  raised = made.raised;
+  puts = puts_with node stays made.puts;
+}

@@ -6,9 +6,9 @@ ghost use Rattle.shelf_store.specs.ShelfState.{ShelfState};
 ghost use Rattle.indirect_macs.specs.Calls.{is_fault};
 ghost use Rattle.indirect_macs.specs.Entries.{is_size};
 ghost use Rattle.indirect_macs.specs.RunFields.{run_for, run_of};
-ghost use Rattle.indirect_macs.specs.Runs.{Made as Outcome, Old, begun, count_at, entries_at, first_at, found_at, kept, levels_for, levels_made, most_puts, most_reads, new_ref, nodes_made, old_of, or_hole, raised_below, same_block, same_node, target, touched_below};
+ghost use Rattle.indirect_macs.specs.Runs.{Made as Outcome, Old, begun, count_at, entries_at, first_at, found_at, kept, levels_for, levels_made, most_puts, most_reads, new_node, new_ref, nodes_made, old_of, or_hole, raised_below, same_block, same_node, target, touched_below};
 ghost use Rattle.indirect_macs.specs.Replaced.{Changes, Replaced};
-ghost use Rattle.indirect_macs.specs.Steps.{AllWalk, FirstOf, HasPut, IsRange, Knows, LevelsPut, LevelsRun, Puts};
+ghost use Rattle.indirect_macs.specs.Steps.{added, AllWalk, FirstOf, HasPut, IsRange, Knows, LevelsPut, LevelsRun, Puts};
 
 use crate::children::{Found, or_hole, read_blocks, read_children};
 use crate::node::ENTRIES;
@@ -149,6 +149,59 @@ fn push(refs: &mut Vec<Option<NodeRef>>, node: Option<NodeRef>) -> Result<(), Ma
     }
 }
 
+// The new node of level 1 of an index, whose old blocks are given.
+fn add_leaf<B: Shelf>(
+    run: &Run,
+    shelf: &mut B,
+    index: u32,
+    old: &Found,
+    before: &[Option<BlockRef>],
+    refs: &mut Vec<Option<NodeRef>>,
+) -> Result<(), MacError>
+    requires fits { 32 * index < 2 ^ 31 }
+    requires size { length before.now ≡ 32 }
+    ensures { (o : Old) (reads : ℕ) (made : Outcome) (start : ShelfState) → before.now ≡ entries_at o.block index → or_hole old.now ≡ o.node 1 index
+        → refs.old.items ≡ made.refs → HasPut reads made.puts start (B.told shelf.old)
+        → let after = added (length start.sizes) (new_node (run_of run.now) o 1 made index) (kept (run_of run.now) o 1 made index) made in
+        IfOk result (λ _. refs.new.items ≡ after.refs) × Puts reads after.puts result start (B.told shelf.new) }
+{
+    let entries = new_blocks(run, index, before);
+    match put_leaf(shelf, &entries, &kept(same_blocks(before, &entries), old)) {
+        Ok(node) => push(refs, node),
+        Err(stop) => Err(stop),
+    }
+}
+
+// The new node of a level above 1 of an index, whose old entries are given.
+fn add_inner<B: Shelf>(
+    run: &Run,
+    shelf: &mut B,
+    level: u8,
+    index: u32,
+    old: &Found,
+    before: &[Found],
+    below: &Made,
+    refs: &mut Vec<Option<NodeRef>>,
+) -> Result<(), MacError>
+    requires above { 2 ≤ level }
+    requires levels { level ≤ 5 }
+    requires fits { 32 * index < 2 ^ 31 }
+    requires size { length before.now ≡ 32 }
+    requires below { length below.now.refs.items ≡ count_at (run_of run.now) (level - 1) }
+    ensures { (o : Old) (reads : ℕ) (under made : Outcome) (start : ShelfState) → map or_hole before.now ≡ entries_at (o.node (level - 1)) index
+        → or_hole old.now ≡ o.node level index → below.now.refs.items ≡ under.refs → below.now.raised ≡ under.raised
+        → refs.old.items ≡ made.refs → HasPut reads made.puts start (B.told shelf.old)
+        → let after = added (length start.sizes) (new_node (run_of run.now) o level under index) (kept (run_of run.now) o level under index) made in
+        IfOk result (λ _. refs.new.items ≡ after.refs) × Puts reads after.puts result start (B.told shelf.new) }
+{
+    let children = old_refs(before);
+    let entries = new_refs(run, level, below, index, &children);
+    match put_inner(shelf, level, &entries, &kept(same_refs(&children, &entries), old)) {
+        Ok(node) => push(refs, node),
+        Err(stop) => Err(stop),
+    }
+}
+
 // The touched nodes of level 1.
 fn put_leaves<B: Shelf>(
     alloc: Global,
@@ -169,10 +222,8 @@ fn put_leaves<B: Shelf>(
     let mut refs = Vec::new(alloc);
     'nodes: for i in 0..old.len() {
         let before = &blocks[ENTRIES * i..ENTRIES * i + ENTRIES];
-        let entries = new_blocks(run, first + i as u32, before);
-        match put_leaf(shelf, &entries, &kept(same_blocks(before, &entries), &old[i])) {
-            Ok(node) => push(&mut refs, node)?,
-            Err(stop) => return Err(stop),
+        if let Err(stop) = add_leaf(run, shelf, first + i as u32, &old[i], before, &mut refs) {
+            return Err(stop);
         }
     }
     Ok(Made {
@@ -227,11 +278,9 @@ fn put_nodes<B: Shelf>(
     let first = first_at(run, level);
     let mut refs = Vec::new(alloc);
     'nodes: for i in 0..old.len() {
-        let before = old_refs(&children[ENTRIES * i..ENTRIES * i + ENTRIES]);
-        let entries = new_refs(run, level, below, first + i as u32, &before);
-        match put_inner(shelf, level, &entries, &kept(same_refs(&before, &entries), &old[i])) {
-            Ok(node) => push(&mut refs, node)?,
-            Err(stop) => return Err(stop),
+        let before = &children[ENTRIES * i..ENTRIES * i + ENTRIES];
+        if let Err(stop) = add_inner(run, shelf, level, first + i as u32, &old[i], before, below, &mut refs) {
+            return Err(stop);
         }
     }
     Ok(refs)
@@ -277,9 +326,10 @@ fn touched<'a>(run: &Run, level: u8, children: &'a [Found]) -> &'a [Found]
     ensures range { (f : ℕ → Result (Option NodeRef) MacError) → IsRange f (32 * first_at (run_of run.now) level) (32 * count_at (run_of run.now) level) children.now
         → IsRange f (first_at (run_of run.now) (level - 1)) (count_at (run_of run.now) (level - 1)) result.now }
 {
-    let first = (first_at(run, level - 1) - 32 * first_at(run, level)) as usize;
-    let count = (last_at(run, level - 1) - first_at(run, level - 1)) as usize + 1;
-    &children[first..first + count]
+    let above = first_at(run, level);
+    let low = first_at(run, level - 1);
+    let high = last_at(run, level - 1);
+    &children[(low - 32 * above) as usize..(high - 32 * above) as usize + 1]
 }
 
 // The new nodes of the levels up to this one, of which what the walks to the touched nodes found is

@@ -23,12 +23,12 @@ returns-in-Err-clause-reads g c =
 
 pub returns-in-Err-clause-told : goal.returns-in-Err-clause-told
 returns-in-Err-clause-told g c =
-    blocks_stop _ c.args.run.now.block (run_of c.args.run.now) c.nodes.i _ c.args.old.now c.nodes.blocks.items c.add_blocks.new.blocks.items _ c.in-Err.stop _ _
+    blocks_stop (Unit {0}) _ (λ blocks. blocks.items) c.args.run.now.block (run_of c.args.run.now) c.nodes.i _ c.args.old.now c.nodes.blocks.items c.add_blocks.new.blocks.items _ c.in-Err.stop _ _
     c.nodes.invariant (ap (λ (first : ℕ). first + c.nodes.i) c.first_at-first.ensures) c.nodes-test.true refl c.in-Err.ensures.told
 
 pub nodes-preserved : goal.nodes-preserved
 nodes-preserved g c =
-    blocks_more c.args.run.now.block (run_of c.args.run.now) c.nodes.i _ c.args.old.now c.nodes.blocks.items c.add_blocks.new.blocks.items _ tt _ _ _
+    blocks_more c.args.run.now.block (run_of c.args.run.now) c.nodes.i _ c.args.old.now c.nodes.blocks.items c.add_blocks.new.blocks.items _ (tt {0}) _ _ _
     c.nodes.invariant (ap (λ (first : ℕ). first + c.nodes.i) c.first_at-first.ensures) c.nodes-test.true refl c.in_default.ensures.reads c.in_default.ensures.size c.in_default.ensures.told
 
 pub returns-clause-told : goal.returns-clause-told
