@@ -16,7 +16,7 @@ use Rattle.indirect_macs.specs.Nodes.{slots, entry_at}
 use Rattle.indirect_macs.specs.Walk.{passed, goes_on, walk, next_block, fails_at, tested, place_of, slot_of}
 use Rattle.indirect_macs.specs.Calls.{Gave, Answers, IsOver, fails_within, is_fault}
 use Rattle.indirect_macs.specs.Runs.{Run, Old, first_at, old_of, child_of, found_below, found_at, walk_to, entries_at, or_hole}
-use Rattle.indirect_macs.specs.Steps.{Reads, IsRange, IsLeaf, AreLeaves, IsLeafAdded, IsStop, spread, AllWalk, FirstOf, IsMacFailed, failure_of}
+use Rattle.indirect_macs.specs.Steps.{Reads, IsRange, IsLeaf, StopsAt, IsLeafAdded, IsStop, spread, AllWalk, FirstOf, IsMacFailed, failure_of}
 use Rattle.indirect_macs.proofs.Walking.{after_more, fails_more, held_kept}
 use Rattle.indirect_macs.proofs.Reading.{both}
 use Rattle.indirect_macs.proofs.Spans.{more_entries, one_of_range}
@@ -362,11 +362,11 @@ blocks_more block run i index old blocks after found x s t u so place within is 
     }
 
 -- a node that ends the reading
-pub blocks_stop : (X Y : Type 0) (items : Y → List (Option BlockRef)) (block : ℕ) (run : Run) (i index : ℕ) (old : List (Result (Option NodeRef) MacError)) (blocks after : List (Option BlockRef)) (found : Result (Option NodeRef) MacError) (stop : MacError) (s t : ShelfState)
+pub blocks_stop : (X : Type 0) (block : ℕ) (run : Run) (i index : ℕ) (old : List (Result (Option NodeRef) MacError)) (blocks after : List (Option BlockRef)) (found : Result (Option NodeRef) MacError) (stop : MacError) (s t : ShelfState)
     → AreBlocks block run i old blocks s t → index ≡ first_at run 1 + i → i < length old → found ≡ get_or old i (Ok None)
     → IfSome t.held (λ held. found ≡ found_at held block run 1 index → IsLeafAdded {X = X} held block run index (Err stop) blocks after)
-    → IfSome s.held (λ held. IsRange (found_at held block run 1) (first_at run 1) (length old) old → AreLeaves {X = Y} items held block run (first_at run 1) (length old) (Err stop))
-blocks_stop X Y items block run i index old blocks after found stop s t so place within is told =
+    → IfSome s.held (λ held. IsRange (found_at held block run 1) (first_at run 1) (length old) old → StopsAt held block run (first_at run 1) (length old) stop)
+blocks_stop X block run i index old blocks after found stop s t so place within is told =
     let told_s : IfSome s.held (λ held. found ≡ found_at held block run 1 index → IsLeafAdded {X = X} held block run index (Err stop) blocks after) =
     rw (held_same i false s t so.reads) at told in
     both s.held so.told told_s (λ held before this range.
@@ -375,7 +375,7 @@ blocks_stop X Y items block run i index old blocks after found stop s t so place
     by_stop held stop (this own) (before range).1)
   where
     by_stop : (held : List (List ℕ)) (e : MacError) → IsLeafAdded {X = X} held block run index (Err e) blocks after → AllWalk held block run (first_at run 1) i
-        → AreLeaves {X = Y} items held block run (first_at run 1) (length old) (Err e)
+        → StopsAt held block run (first_at run 1) (length old) e
     by_stop held (MacFailed level at) fails before =
         record {
           at = index;

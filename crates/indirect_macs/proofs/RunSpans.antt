@@ -73,3 +73,9 @@ first_child run level above =
 pub count_is : (run : Run) (level : ℕ) → count_at run level ≡ last_at run level - first_at run level + 1
 unfolding count_at
 count_is run level = refl
+
+pub order_at : (run : Run) (level : ℕ) → first_at run level ≤ last_at run level
+unfolding first_at last_at
+order_at run level =
+    le-div (first_block run / 32 ^ level) (last_block run) (32 ^ level) (omega (arith, power_least level))
+    (omega (arith, div-mul-le_self (first_block run) (32 ^ level), first_under_last run))

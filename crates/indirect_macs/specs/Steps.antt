@@ -80,14 +80,12 @@ pub record FirstOf (held : List (List ℕ)) (record_size : ℕ) (run : Run) (fro
   pub fails : walk_to held record_size run (32 * at) ≡ Err failed
   pub before : (j : ℕ) → from ≤ j → j < at → IsOk (walk_to held record_size run (32 * j))
 
--- the same of so many nodes of level 1
-abbrev pub AreLeaves : {X : Type 0} → (items : X → List (Option BlockRef)) → (held : List (List ℕ)) → (record_size : ℕ) → Run → (from count : ℕ) → Result X MacError → Type 0
-AreLeaves items held record_size run from count (Ok blocks) =
-    IsRange (old_of held record_size run).block (32 * from) (32 * count) (items blocks) × AllWalk held record_size run from count
-AreLeaves items held record_size run from count (Err (MacFailed level place)) = FirstOf held record_size run from count (MacFailed level place)
-AreLeaves items held record_size run from count (Err ShelfFault) = ⊤
-AreLeaves items held record_size run from count (Err Full) = ⊥
-AreLeaves items held record_size run from count (Err NoMemory) = ⊤
+-- why their reading stops
+abbrev pub StopsAt : (held : List (List ℕ)) → (record_size : ℕ) → Run → (from count : ℕ) → MacError → Type 0
+StopsAt held record_size run from count (MacFailed level place) = FirstOf held record_size run from count (MacFailed level place)
+StopsAt held record_size run from count ShelfFault = ⊤
+StopsAt held record_size run from count Full = ⊥
+StopsAt held record_size run from count NoMemory = ⊤
 
 -- what an answer says of the blocks that weren't put
 abbrev pub PutEnded : {X : Type 0} → (rest : List (List ℕ)) → Result X MacError → ShelfState → Type 0

@@ -4,8 +4,8 @@ ghost use Rattle.indirect_macs.specs.Entries.{block_at, node_at};
 ghost use Rattle.indirect_macs.specs.Nodes.{entry_at, slots};
 ghost use Rattle.indirect_macs.specs.Calls.{is_fault};
 ghost use Rattle.indirect_macs.specs.RunFields.{run_of};
-ghost use Rattle.indirect_macs.specs.Runs.{child_of, count_at, entries_at, first_at, found_at, or_hole};
-ghost use Rattle.indirect_macs.specs.Steps.{AreLeaves, IsLeaf, IsLeafAdded, IsMacFailed, IsRange, IsStop, Reads, failure_of, spread};
+ghost use Rattle.indirect_macs.specs.Runs.{child_of, count_at, entries_at, first_at, found_at, old_of, or_hole};
+ghost use Rattle.indirect_macs.specs.Steps.{AllWalk, IsLeaf, IsLeafAdded, IsMacFailed, IsRange, IsStop, Reads, StopsAt, failure_of, spread};
 
 use crate::entry::{BLOCK_ENTRY_LEN, NODE_ENTRY_LEN, block_at, node_at};
 use crate::node::ENTRIES;
@@ -297,7 +297,11 @@ pub fn read_blocks<B: Shelf>(
     ensures size { IfOk result (λ blocks. length blocks.items ≡ 32 * length old.now) }
     ensures told { IfSome (B.told shelf.old).held (λ held.
         IsRange (found_at held run.now.block (run_of run.now) 1) (first_at (run_of run.now) 1) (length old.now) old.now
-        → AreLeaves (λ blocks. blocks.items) held run.now.block (run_of run.now) (first_at (run_of run.now) 1) (length old.now) result) }
+        → IfOk result (λ blocks. IsRange (old_of held run.now.block (run_of run.now)).block (32 * first_at (run_of run.now) 1) (32 * length old.now) blocks.items
+        × AllWalk held run.now.block (run_of run.now) (first_at (run_of run.now) 1) (length old.now))) }
+    ensures stops { IfSome (B.told shelf.old).held (λ held.
+        IsRange (found_at held run.now.block (run_of run.now) 1) (first_at (run_of run.now) 1) (length old.now) old.now
+        → IfErr result (StopsAt held run.now.block (run_of run.now) (first_at (run_of run.now) 1) (length old.now))) }
 {
     let first = first_at(run, 1);
     let mut blocks = Vec::new(alloc);

@@ -1,12 +1,12 @@
 // A run of references is put into a tree.
-ghost use Rattle.std.specs.Prelude.{◌≡◌, ℕ, ◌+◌, ◌-◌, ◌*◌, ◌^◌, ◌<◌, ◌≤◌, ◌∷◌, ◌++◌, List, [], length, map, min, replicate, All, IsTrue, Option, Result, Some, None, Ok, Err, IfSome, IfOk, IfErr, if◌then◌else◌};
+ghost use Rattle.std.specs.Prelude.{◌≡◌, ◌&&◌, nat_le, nat_lt, ℕ, ◌+◌, ◌-◌, ◌*◌, ◌^◌, ◌<◌, ◌≤◌, ◌∷◌, ◌++◌, List, [], length, map, min, replicate, All, IsTrue, Option, Result, Some, None, Ok, Err, IfSome, IfOk, IfErr, if◌then◌else◌};
 ghost use Rattle.std.specs.Cmp.Lexicographic.{pointwise};
 ghost use Rattle.std.specs.Option.{option_eq};
 ghost use Rattle.shelf_store.specs.ShelfState.{ShelfState};
 ghost use Rattle.indirect_macs.specs.Calls.{is_fault};
 ghost use Rattle.indirect_macs.specs.Entries.{is_size};
 ghost use Rattle.indirect_macs.specs.RunFields.{run_for, run_of};
-ghost use Rattle.indirect_macs.specs.Runs.{Made as Outcome, Old, begun, count_at, entries_at, first_at, found_at, kept, levels_for, levels_made, most_puts, most_reads, new_node, new_ref, nodes_made, old_of, or_hole, raised_below, same_block, same_node, target, touched_below};
+ghost use Rattle.indirect_macs.specs.Runs.{Made as Outcome, Old, begun, count_at, entries_at, first_at, found_at, kept, last_at, levels_for, levels_made, most_puts, most_reads, new_node, new_ref, nodes_made, old_of, or_hole, raised_below, same_block, same_node, target, touched_below};
 ghost use Rattle.indirect_macs.specs.Replaced.{Changes, Replaced};
 ghost use Rattle.indirect_macs.specs.Steps.{added, AllWalk, FirstOf, HasPut, IsRange, Knows, LevelsPut, LevelsRun, Puts};
 
@@ -40,6 +40,31 @@ fn target(run: &Run, index: u32, old: &Option<BlockRef>) -> Option<BlockRef>
     *old
 }
 
+fn is_touched(run: &Run, level: u8, index: u32) -> bool
+    requires { level ≤ 5 }
+    ensures value { result ≡ (nat_le (first_at (run_of run.now) level) index && nat_le index (last_at (run_of run.now) level)) }
+    ensures low { IsTrue result → first_at (run_of run.now) level ≤ index }
+    ensures high { IsTrue result → index ≤ last_at (run_of run.now) level }
+{
+    first_at(run, level) <= index && index <= last_at(run, level)
+}
+
+// All blocks under a node are behind the last one that stays.
+fn is_behind(run: &Run, level: u8, index: u32) -> bool
+    requires { level ≤ 5 }
+    ensures { result ≡ nat_le run.now.blocks (index * 32 ^ level) }
+{
+    u64::from(run.blocks) <= u64::from(index) << (5 * u32::from(level))
+}
+
+// A level above the old top whose first node isn't touched.
+fn is_raised(run: &Run, level: u8) -> bool
+    requires { level ≤ 5 }
+    ensures { result ≡ (nat_lt run.now.tree.levels level && nat_lt 0 (first_at (run_of run.now) level)) }
+{
+    level > run.tree.levels && first_at(run, level) > 0
+}
+
 // The new reference to a node of this level, whose old one is given.
 fn new_ref(run: &Run, level: u8, made: &Made, index: u32, old: &Option<NodeRef>) -> Option<NodeRef>
     requires levels { level ≤ 5 }
@@ -47,11 +72,10 @@ fn new_ref(run: &Run, level: u8, made: &Made, index: u32, old: &Option<NodeRef>)
     ensures { (before : Old) (below : Outcome) → before.node level index ≡ old.now → made.now.refs.items ≡ below.refs
         → made.now.raised ≡ below.raised → result ≡ new_ref (run_of run.now) before level below index }
 {
-    let first = first_at(run, level);
-    if first <= index && index <= last_at(run, level) {
-        return made.refs[(index - first) as usize];
+    if is_touched(run, level, index) {
+        return made.refs[(index - first_at(run, level)) as usize];
     }
-    if u64::from(run.blocks) <= u64::from(index) << (5 * u32::from(level)) {
+    if is_behind(run, level, index) {
         return None;
     }
     if level <= run.tree.levels {
@@ -245,7 +269,7 @@ fn put_raised<B: Shelf>(
         → let first = begun (run_of run.now) (length start.sizes) level made in
         IfOk result (λ raised. raised ≡ first.raised) × Puts reads first.puts result start (B.told shelf.new) }
 {
-    if level <= run.tree.levels || first_at(run, level) == 0 {
+    if !is_raised(run, level) {
         return Ok(below.raised);
     }
     let mut entries = [None; ENTRIES];

@@ -21,9 +21,9 @@ pub returns-in-Err-clause-reads : goal.returns-in-Err-clause-reads
 returns-in-Err-clause-reads g c =
     reads_wider (c.nodes.i + 1) _ _ _ _ (omega (arith, c.nodes-test.true)) (reads_more c.nodes.i 1 _ _ _ _ c.nodes.invariant.reads c.in-Err.ensures.reads)
 
-pub returns-in-Err-clause-told : goal.returns-in-Err-clause-told
-returns-in-Err-clause-told g c =
-    blocks_stop (Unit {0}) _ (λ blocks. blocks.items) c.args.run.now.block (run_of c.args.run.now) c.nodes.i _ c.args.old.now c.nodes.blocks.items c.add_blocks.new.blocks.items _ c.in-Err.stop _ _
+pub returns-in-Err-clause-stops : goal.returns-in-Err-clause-stops
+returns-in-Err-clause-stops g c =
+    blocks_stop (Unit {0}) c.args.run.now.block (run_of c.args.run.now) c.nodes.i _ c.args.old.now c.nodes.blocks.items c.add_blocks.new.blocks.items _ c.in-Err.stop _ _
     c.nodes.invariant (ap (λ (first : ℕ). first + c.nodes.i) c.first_at-first.ensures) c.nodes-test.true refl c.in-Err.ensures.told
 
 pub nodes-preserved : goal.nodes-preserved

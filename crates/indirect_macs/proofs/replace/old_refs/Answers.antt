@@ -2,6 +2,7 @@ use Rattle.std.proofs.Common.{◌≡◌, ℕ, get_or, map, length, Ok, None, Opt
 use Rattle.std.proofs.lemmas.List.{ext_get_or, get_or-map, length-map}
 use Rattle.std.proofs.lemmas.List.Edits.{fill_by_more}
 use Rattle.indirect_macs.specs.declared.refs.NodeRef.{NodeRef}
+use Rattle.indirect_macs.specs.declared.refs.MacError.{MacError}
 use Rattle.indirect_macs.specs.Runs.{or_hole}
 use Rattle.indirect_macs.proofs.replace.old_refs.Goals as goal
 
@@ -13,5 +14,6 @@ entries-preserved c = (length-set c.entries.entries c.entries.slot _ ∙ c.entri
 pub returns : goal.returns
 returns c =
     let end : c.entries.slot ≡ 32 = omega arith in
-    ext_get_or None c.entries.entries (map or_hole c.args.old.now) (omega (arith, c.entries.invariant.0, length-map or_hole c.args.old.now))
-    (λ k within. c.entries.invariant.1 k (omega (arith, end, within, c.entries.invariant.0)) ∙ sym (get_or-map or_hole c.args.old.now k (Ok None) None (omega (arith, within, c.entries.invariant.0))))
+    let f : Result (Option NodeRef) MacError → Option NodeRef = or_hole in
+    ext_get_or None c.entries.entries (map f c.args.old.now) (omega (arith, c.entries.invariant.0, length-map f c.args.old.now))
+    (λ k within. c.entries.invariant.1 k (omega (arith, end, within, c.entries.invariant.0)) ∙ sym (get_or-map f c.args.old.now k (Ok None) None (omega (arith, within, c.entries.invariant.0))))
