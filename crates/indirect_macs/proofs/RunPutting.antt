@@ -1,5 +1,5 @@
 -- What putting one node more makes of a level, over plain variables.
-use Rattle.std.proofs.Common.{◌≡◌, ℕ, zero, suc, ◌+◌, ◌-◌, ◌*◌, ◌<◌, ◌≤◌, Bool, true, false, ◌==◌, ◌&&◌, nat_lt, get_or, List, [], ◌∷◌, ◌++◌, length, map, replicate, refl, sym, ap, subst, ◌∙◌, arith, Option, Some, None, Result, Ok, Err, if◌then◌else◌}
+use Rattle.std.proofs.Common.{◌≡◌, ℕ, zero, suc, ◌+◌, ◌-◌, ◌*◌, ◌<◌, ◌≤◌, Bool, true, false, ◌==◌, ◌&&◌, nat_lt, get_or, List, [], ◌∷◌, ◌++◌, length, map, take, drop, replicate, refl, sym, ap, subst, ◌∙◌, arith, Option, Some, None, Result, Ok, Err, if◌then◌else◌}
 use Rattle.std.specs.Prelude.{IfOk, IfErr}
 use Rattle.std.specs.Cmp.Lexicographic.{pointwise}
 use Rattle.std.specs.Option.{option_eq}
@@ -9,13 +9,13 @@ use Rattle.indirect_macs.specs.declared.refs.BlockRef.{BlockRef}
 use Rattle.indirect_macs.specs.declared.refs.NodeRef.{NodeRef}
 use Rattle.indirect_macs.specs.declared.refs.MacError.{MacError}
 use Rattle.indirect_macs.specs.declared.refs.MacError.TheVariants.{MacFailed, ShelfFault, Full, NoMemory}
-use Rattle.indirect_macs.specs.Runs.{Run, Old, Made, Node, entries_at, target, new_ref, new_node, kept, leaf_of, inner_of, same_block, same_node, ref_with, puts_with, begun, nodes_made, first_at, or_hole}
+use Rattle.indirect_macs.specs.Runs.{Run, Old, Made, Node, entries_at, target, new_ref, new_node, kept, leaf_of, inner_of, same_block, same_node, ref_with, puts_with, begun, nodes_made, levels_made, count_at, first_at, or_hole}
 use Rattle.indirect_macs.specs.Steps.{IsRange, Puts, HasPut, added}
 use Rattle.indirect_macs.proofs.Putting.{put_all, next_address, has_put, put_no_memory, put_front_of, same_puts}
-use Rattle.indirect_macs.proofs.RunMade.{whole_front, nodes_front, begun_refs}
+use Rattle.indirect_macs.proofs.RunMade.{whole_front, nodes_front, nodes_raised, begun_refs}
 use Rattle.indirect_macs.proofs.RunReading.{if_ok}
 use Rattle.indirect_macs.proofs.Spans.{one_of_range}
-use Rattle.std.proofs.lemmas.List.{get_or-map}
+use Rattle.std.proofs.lemmas.List.{get_or-map, take-map, drop-map}
 
 pub leaf_node : (run : Run) (old : Old) (below : Made) (index : ℕ) (entries : List (Option BlockRef)) → entries ≡ entries_at (target run old) index
     → leaf_of entries ≡ new_node run old 1 below index
@@ -39,7 +39,7 @@ pub inner_kept : (run : Run) (old : Old) (level : ℕ) (below : Made) (index : �
     → before ≡ entries_at (old.node (level - 1)) index → entries ≡ entries_at (new_ref run old (level - 1) below) index → there ≡ old.node level index
     → same ≡ pointwise (option_eq same_node) before entries → stays ≡ (if same then there else None) → stays ≡ kept run old level below index
 unfolding kept
-inner_kept run old level below index before entries node stays same above was is at test stay =
+inner_kept run old level below index before entries there stays same above was is at test stay =
     let other : (level == 1) ≡ false = ne_eqb level 1 (λ e. omega (arith, e, above)) in
     stay ∙ rw (other, test, was, is, at) refl
 
@@ -132,3 +132,29 @@ pub old_node : (f : ℕ → Option NodeRef) (from i index : ℕ) (old : List (Re
 old_node f from i index old within at range =
     let g : Result (Option NodeRef) MacError → Option NodeRef = or_hole in
     sym (get_or-map g old i (Ok None) None within) ∙ one_of_range f from (length old) i (map g old) None within range ∙ ap f (sym at)
+
+-- before the lowest level
+abbrev pub none_made : Run → Made
+none_made run = record { refs = []; raised = run.top; puts = [] }
+
+pub leaves_none : (run : Run) (old : Old) (base reads : ℕ) (start new : ShelfState) → 1 ≤ run.levels → HasPut reads [] start new
+    → NodesPut run old base 1 (none_made run) 0 reads [] start new
+leaves_none run old base reads start new above had =
+    nodes_none run old base 1 reads (none_made run) start new (rw (begun_low run base 1 (none_made run) above) had)
+
+pub leaves_all : (run : Run) (old : Old) (base reads : ℕ) (refs : List (Option NodeRef)) (start new : ShelfState) → 1 ≤ run.levels
+    → NodesPut run old base 1 (none_made run) (count_at run 1) reads refs start new
+    → ((refs ≡ (levels_made run old base 1).refs) × (run.top ≡ (levels_made run old base 1).raised)) × HasPut reads (levels_made run old base 1).puts start new
+unfolding levels_made
+leaves_all run old base reads refs start new above so =
+    ((so.refs_is, sym (nodes_raised run old base 1 (none_made run) (count_at run 1) ∙ ap (λ (m : Made). m.raised) (begun_low run base 1 (none_made run) above))), so.puts)
+
+pub leaves_stop : (X Y : Type 0) (run : Run) (old : Old) (base reads n index : ℕ) (stop : MacError) (start new : ShelfState) → index ≡ first_at run 1 + n → n < count_at run 1
+    → Puts {X = X} reads (added base (new_node run old 1 (none_made run) index) (kept run old 1 (none_made run) index) (nodes_made run old base 1 (none_made run) n)).puts (Err stop) start new
+    → Puts {X = Y} reads (levels_made run old base 1).puts (Err stop) start new
+unfolding levels_made
+leaves_stop X Y run old base reads n index stop start new at few puts =
+    nodes_stop X Y run old base 1 reads (none_made run) n index (count_at run 1) stop start new at few puts
+
+pub map_part : {X Y : Type 0} (f : X → Y) (n k : ℕ) (xs : List X) → map f (take n (drop k xs)) ≡ take n (drop k (map f xs))
+map_part f n k xs = sym (take-map f n (drop k xs)) ∙ ap (take n) (sym (drop-map f k xs))

@@ -1,7 +1,7 @@
 -- How many nodes a run touches, and how their ranges lie.
-use Rattle.std.proofs.Common.{◌≡◌, ℕ, zero, suc, ◌+◌, ◌-◌, ◌*◌, ◌/◌, ◌^◌, ◌<◌, ◌≤◌, Bool, true, false, nat_lt, length, refl, sym, ap, ◌∙◌, inl, inr, arith, if◌then◌else◌}
+use Rattle.std.proofs.Common.{◌≡◌, ℕ, zero, suc, ◌+◌, ◌-◌, ◌*◌, ◌/◌, ◌%◌, ◌^◌, ◌<◌, ◌≤◌, Bool, true, false, nat_lt, nat_le, length, refl, sym, ap, ◌∙◌, inl, inr, arith, if◌then◌else◌}
 use Rattle.std.proofs.lemmas.Bool.{cases_lt}
-use Rattle.std.proofs.Math.Nat.{div-le_self, div-mul-le_self, mul-le-mul_right}
+use Rattle.std.proofs.Math.Nat.{div-le_self, div-mul-le_self, mul-le-mul_right, mul-le-mul_left, pow-suc}
 use Rattle.std.proofs.lemmas.Nat.{le-div}
 use Rattle.indirect_macs.proofs.FoldOfTree.{power_least}
 use Rattle.indirect_macs.specs.Runs.{Run, first_block, last_block, first_at, last_at, count_at}
@@ -79,3 +79,28 @@ unfolding first_at last_at
 order_at run level =
     le-div (first_block run / 32 ^ level) (last_block run) (32 ^ level) (omega (arith, power_least level))
     (omega (arith, div-mul-le_self (first_block run) (32 ^ level), first_under_last run))
+
+pub index_small : (index level : ℕ) → index < 4294967296 → level ≤ 5 → index * 32 ^ level < 18446744073709551616
+index_small index zero small low = omega (arith, small)
+index_small index (suc zero) small low = omega (arith, small)
+index_small index (suc (suc zero)) small low = omega (arith, small)
+index_small index (suc (suc (suc zero))) small low = omega (arith, small)
+index_small index (suc (suc (suc (suc zero)))) small low = omega (arith, small)
+index_small index (suc (suc (suc (suc (suc zero))))) small low = omega (arith, small)
+index_small index (suc (suc (suc (suc (suc (suc k)))))) small low = absurd (omega (arith, low))
+
+pub behind : (blocks index level : ℕ) → index < 4294967296 → level ≤ 5 → nat_le blocks (index * 32 ^ level % 18446744073709551616) ≡ nat_le blocks (index * 32 ^ level)
+behind blocks index level small low =
+    let same : index * 32 ^ level % 18446744073709551616 ≡ index * 32 ^ level = omega (arith, index_small index level small low) in
+    ap (nat_le blocks) same
+
+pub entries_fit : (run : Run) (level i : ℕ) → 1 ≤ level → run.from + length run.refs ≤ run.blocks → run.blocks ≤ 8388608 → i < count_at run level
+    → 32 * (first_at run level + i) < 2147483648
+unfolding last_at
+entries_fit run zero i above within most few = absurd (omega (arith, above))
+entries_fit run (suc k) i above within most few =
+    let index : ℕ = first_at run (suc k) + i in
+    let wide : 32 ≤ 32 ^ suc k = omega (arith, pow-suc 32 k, power_least k) in
+    let low : (first_at run (suc k) + i) * 32 ^ suc k ≤ last_block run / 32 ^ suc k * 32 ^ suc k = mul-le-mul_right (32 ^ suc k) (touched_last run (suc k) i few) in
+    let more : (first_at run (suc k) + i) * 32 ≤ (first_at run (suc k) + i) * 32 ^ suc k = mul-le-mul_left (first_at run (suc k) + i) wide in
+    omega (arith, low, more, div-mul-le_self (last_block run) (32 ^ suc k), last_small run within most)

@@ -15,5 +15,5 @@ pub returns : goal.returns
 returns c =
     let end : c.entries.slot ≡ 32 = omega arith in
     let f : Result (Option NodeRef) MacError → Option NodeRef = or_hole in
-    ext_get_or None c.entries.entries (map f c.args.old.now) (omega (arith, c.entries.invariant.0, length-map f c.args.old.now))
+    ext_get_or None c.entries.entries (map f c.args.old.now) (simp length-map (omega (arith, c.entries.invariant.0)))
     (λ k within. c.entries.invariant.1 k (omega (arith, end, within, c.entries.invariant.0)) ∙ sym (get_or-map f c.args.old.now k (Ok None) None (omega (arith, within, c.entries.invariant.0))))
