@@ -12,3 +12,4 @@ pub mod RunBounds
 pub mod RunFound
 pub mod RunMade
 pub mod RunNodes
+pub mod RunOld
