@@ -13,3 +13,4 @@ pub mod RunFound
 pub mod RunMade
 pub mod RunNodes
 pub mod RunOld
+pub mod RunEntries

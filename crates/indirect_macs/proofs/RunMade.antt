@@ -176,3 +176,10 @@ raised_stays run old base (suc level) low =
     let below : nat_lt run.levels (suc level) ≡ false = grind (arith, low) in
     nodes_raised run old base (suc level) (levels_made run old base level) (count_at run (suc level))
     ∙ rw below (raised_stays run old base level (omega (arith, low)))
+
+-- and elsewhere that of the level below
+pub raised_same : (run : Run) (old : Old) (base level : ℕ) → (nat_lt run.levels (suc level) && nat_lt 0 (first_at run (suc level))) ≡ false
+    → (levels_made run old base (suc level)).raised ≡ (levels_made run old base level).raised
+unfolding levels_made begun
+raised_same run old base level low =
+    nodes_raised run old base (suc level) (levels_made run old base level) (count_at run (suc level)) ∙ rw low refl

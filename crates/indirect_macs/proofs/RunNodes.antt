@@ -112,15 +112,15 @@ length-inner refs whole all =
 
 -- ---- the entries of a put node
 
-leaf_slot : (bytes : List ℕ) (s : ℕ) → s < 32 → block_at (entry_at 1 bytes s) ≡ get_or (blocks_of bytes) s None
+pub leaf_slot : (bytes : List ℕ) (s : ℕ) → s < 32 → block_at (entry_at 1 bytes s) ≡ get_or (blocks_of bytes) s None
 unfolding slots
 leaf_slot bytes s within = sym (get_or-map-range_with_len (λ slot. block_at (entry_at 1 bytes slot)) 0 32 s s None within (omega arith))
 
-inner_slot : (bytes : List ℕ) (s : ℕ) → s < 32 → node_at (entry_at 2 bytes s) ≡ get_or (refs_of bytes) s None
+pub inner_slot : (bytes : List ℕ) (s : ℕ) → s < 32 → node_at (entry_at 2 bytes s) ≡ get_or (refs_of bytes) s None
 unfolding slots
 inner_slot bytes s within = sym (get_or-map-range_with_len (λ slot. node_at (entry_at 2 bytes slot)) 0 32 s s None within (omega arith))
 
-inner_holes : (below : ℕ) (bytes : List ℕ) → list_all is_none (refs_of bytes) ≡ is_empty_node (below + 2) bytes
+pub inner_holes : (below : ℕ) (bytes : List ℕ) → list_all is_none (refs_of bytes) ≡ is_empty_node (below + 2) bytes
 unfolding is_empty_node
 inner_holes below bytes =
     list_all-map is_none (λ slot. node_at (entry_at 2 bytes slot)) slots

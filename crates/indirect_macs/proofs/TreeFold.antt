@@ -40,7 +40,7 @@ test_true (Some block) test bytes is = by_test (test block) refl is
     by_test true passes same = let e : block ≡ bytes = cc in subst (λ (b : List ℕ). test b ≡ true) e passes
     by_test false fails same = absurd (cc)
 
-same_bytes : (xs ys : List ℕ) → bytes_eq xs ys ≡ true → xs ≡ ys
+pub same_bytes : (xs ys : List ℕ) → bytes_eq xs ys ≡ true → xs ≡ ys
 same_bytes xs ys is = grind (arith, is, bytes_eq-Decides xs ys)
 
 pub passes_from : (held : List (List ℕ)) (record_size level : ℕ) (node : NodeRef) (bytes : List ℕ)

@@ -1,11 +1,13 @@
 -- What a tree leads to, and trees in which no node without references is stored.
-use Rattle.std.specs.Prelude.{ℕ, ◌+◌, ◌^◌, ◌<◌, ◌≡◌, ◌==◌, Bool, false, List, slice_index, Option, Some, None, Result, Ok}
+use Rattle.std.specs.Prelude.{ℕ, ◌+◌, ◌^◌, ◌<◌, ◌≤◌, ◌≡◌, ◌==◌, Bool, false, List, length, slice_index, Option, Some, None, IfSome, All, Result, Ok}
 use Rattle.std.specs.List.{list_all, slice_get, slice_index_or}
 use Rattle.indirect_macs.specs.declared.refs.BlockRef.{BlockRef}
 use Rattle.indirect_macs.specs.declared.refs.NodeRef.{NodeRef}
+use Rattle.indirect_macs.specs.Entries.{IsBlockRef, IsNodeRef}
 use Rattle.indirect_macs.specs.Nodes.{entry_at, slots}
 use Rattle.indirect_macs.specs.Walk.{walk}
 use Rattle.indirect_macs.specs.Places.{Place, place_at}
+use Rattle.indirect_macs.specs.Runs.{Run, old_of, puts_of}
 
 -- each held block is of bytes
 abbrev pub HoldsBytes : List (List ℕ) → Type 0
@@ -25,3 +27,13 @@ abbrev pub HasNoEmptyNodes : (held : List (List ℕ)) → (below : ℕ) → Opti
 HasNoEmptyNodes held below top =
     (index depth : ℕ) (place : Place) (node : List ℕ) → index < 32 ^ (below + 1) → place_at held index below top depth ≡ Some place
     → slice_get held place.node.addr ≡ Some node → is_empty_node place.level node ≡ false
+
+-- a run of references that fit, into a tree as a shelf holds it, whose new addresses fit too
+pub record IsRunOn (held : List (List ℕ)) (record_size : ℕ) (run : Run) : Type 0 where
+  pub levels : 1 ≤ run.levels
+  pub within : run.from + length run.refs ≤ run.blocks
+  pub few : run.blocks ≤ 8388608
+  pub refs : All (λ entry. IfSome entry (IsBlockRef record_size)) run.refs
+  pub top : IfSome run.top IsNodeRef
+  pub bytes : HoldsBytes held
+  pub room : length held + length (puts_of run (old_of held record_size run) (length held)) ≤ 2 ^ 64
