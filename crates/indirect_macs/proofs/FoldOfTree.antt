@@ -111,6 +111,14 @@ pub power_least : (k : ℕ) → 1 ≤ 32 ^ k
 power_least zero = omega arith
 power_least (suc k) = omega (arith, power_least k, pow-suc 32 k)
 
+pub power_mono : (a b : ℕ) → a ≤ b → 32 ^ a ≤ 32 ^ b
+power_mono a zero few = let none : a ≡ 0 = omega (arith, few) in rw none (omega arith)
+power_mono a (suc b) few =
+    elim (cases_lt a (suc b)) [
+      | inl less ↦ omega (arith, power_mono a b (omega (arith, less)), pow-suc 32 b)
+      | inr all ↦ let same : a ≡ suc b = omega (arith, all, few) in rw same (omega arith)
+    ]
+
 -- raising by one level first
 raised_first : (level more : ℕ) (f : ℕ → Option (List ℕ)) (j : ℕ)
     → raised level (suc more) f j ≡ raised (level + 1) more (λ i. group_mac (level + 1) node_under_mac (under f i)) j

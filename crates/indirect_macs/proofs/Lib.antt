@@ -14,3 +14,4 @@ pub mod RunMade
 pub mod RunNodes
 pub mod RunOld
 pub mod RunEntries
+pub mod RunLeads

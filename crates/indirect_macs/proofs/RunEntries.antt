@@ -210,7 +210,7 @@ module _ (held : List (List ℕ)) (record_size : ℕ) (run : Run) (ready : IsRun
   abbrev final : List (List ℕ)
   final = (made (levels_for run.blocks)).puts
 
-  puts_are : puts_of run old (length held) ≡ final
+  pub puts_are : puts_of run old (length held) ≡ final
   unfolding puts_of
   puts_are =
       let other : (run.blocks == 0) ≡ false = ne_eqb run.blocks 0 (λ e. omega (arith, e, some)) in

@@ -38,7 +38,7 @@ pub record TouchedUnder (run : Run) (low j : ℕ) : Type 0 where
   pub touched : IsTouched run at
   pub place : place_of (low + 1) (32 * at) ≡ j
 
-in_order : (run : Run) → first_block run ≤ last_block run
+pub in_order : (run : Run) → first_block run ≤ last_block run
 in_order run =
     elim (cases_lt 0 (length run.refs)) [
       | inl some ↦
