@@ -15,3 +15,4 @@ pub mod RunNodes
 pub mod RunOld
 pub mod RunEntries
 pub mod RunLeads
+pub mod RunFilled

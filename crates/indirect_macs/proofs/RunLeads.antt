@@ -10,7 +10,7 @@ use Rattle.indirect_macs.specs.declared.refs.MacError.{MacError}
 use Rattle.indirect_macs.specs.Entries.{block_at, node_at}
 use Rattle.indirect_macs.specs.Nodes.{entry_at}
 use Rattle.indirect_macs.specs.Walk.{place_of, slot_of, walk, goes_on}
-use Rattle.indirect_macs.specs.Trees.{IsRunOn}
+use Rattle.indirect_macs.specs.Trees.{IsRunOn, walk_after}
 use Rattle.indirect_macs.specs.Runs.{Run, Old, Made, first_block, last_block, first_at, last_at, levels_for, found_at, walk_to, or_hole, old_of, target, new_ref, levels_made, puts_of, tree_of, Passes}
 use Rattle.indirect_macs.proofs.Growth.{walk-grown}
 use Rattle.indirect_macs.proofs.FoldOfTree.{power_least, power_mono}
@@ -23,7 +23,7 @@ use Rattle.indirect_macs.proofs.RunEntries.{puts_are, new_ref_cases, new_ref_tou
 
 -- ---- the walk through entries
 
-through_inner : (held : List (List ℕ)) (record_size index low : ℕ) (e : ℕ → Option NodeRef) (r : Option NodeRef) (x : Option BlockRef)
+pub through_inner : (held : List (List ℕ)) (record_size index low : ℕ) (e : ℕ → Option NodeRef) (r : Option NodeRef) (x : Option BlockRef)
     → Entries node_at held record_size (low + 2) e r → walk held record_size index low (e (slot_of (low + 2) index)) ≡ Ok x
     → walk held record_size index (suc low) r ≡ Ok x
 unfolding Entries
@@ -49,7 +49,7 @@ through_leaf held record_size index e (Some node) has =
 div_mono : (a b n : ℕ) → 0 < n → a ≤ b → a / n ≤ b / n
 div_mono a b n positive order = le-div (a / n) b n positive (omega (arith, order, div-mul-le_self a n))
 
-from_parts : (low index : ℕ) → 32 * place_of (low + 2) index + slot_of (low + 2) index ≡ place_of (low + 1) index
+pub from_parts : (low index : ℕ) → 32 * place_of (low + 2) index + slot_of (low + 2) index ≡ place_of (low + 1) index
 from_parts low index =
     let level : low + 2 - 1 ≡ low + 1 = omega arith in
     let up : low + 1 + 1 ≡ low + 2 = omega arith in
@@ -61,13 +61,13 @@ lowest_parts : (index : ℕ) → 32 * place_of 1 index + slot_of 1 index ≡ ind
 lowest_parts index = omega arith
 
 -- a place outside of the run
-abbrev Outside : Run → (level j : ℕ) → Type 0
+abbrev pub Outside : Run → (level j : ℕ) → Type 0
 Outside run level j = (j < first_at run level) ⊎ (last_at run level < j)
 
-abbrev in_run : Run → ℕ → Bool
+abbrev pub in_run : Run → ℕ → Bool
 in_run run index = nat_le run.from index && nat_lt index (run.from + length run.refs)
 
-not_in_run : (run : Run) (level index : ℕ) → Outside run level (place_of level index) → in_run run index ≡ false
+pub not_in_run : (run : Run) (level index : ℕ) → Outside run level (place_of level index) → in_run run index ≡ false
 unfolding first_at last_at
 not_in_run run level index out =
     elim (cases_lt index run.from) [
@@ -104,13 +104,13 @@ target_beyond run old index past =
     let beyond : nat_le run.blocks index ≡ true = grind (arith, past) in
     rw beyond refl
 
-walk_beyond : (held : List (List ℕ)) (record_size : ℕ) (run : Run) (index : ℕ) → 32 ^ run.levels ≤ index → walk_to held record_size run index ≡ Ok None
+pub walk_beyond : (held : List (List ℕ)) (record_size : ℕ) (run : Run) (index : ℕ) → 32 ^ run.levels ≤ index → walk_to held record_size run index ≡ Ok None
 unfolding walk_to
 walk_beyond held record_size run index past =
     let outside : nat_lt index (32 ^ run.levels) ≡ false = grind (arith, past) in
     rw outside refl
 
-walk_inside : (held : List (List ℕ)) (record_size : ℕ) (run : Run) (index : ℕ) → index < 32 ^ run.levels
+pub walk_inside : (held : List (List ℕ)) (record_size : ℕ) (run : Run) (index : ℕ) → index < 32 ^ run.levels
     → walk_to held record_size run index ≡ walk held record_size index (run.levels - 1) run.top
 unfolding walk_to
 walk_inside held record_size run index small =
@@ -145,7 +145,7 @@ module _ (held : List (List ℕ)) (record_size : ℕ) (run : Run) (ready : IsRun
   leads index low r x = walk (held ++ final) record_size index low r ≡ Ok x
 
   -- the old block is the new one, outside of the run
-  old_stays : (level index : ℕ) (x : Option BlockRef) → Outside run level (place_of level index) → place_of level index * 32 ^ level < run.blocks
+  pub old_stays : (level index : ℕ) (x : Option BlockRef) → Outside run level (place_of level index) → place_of level index * 32 ^ level < run.blocks
       → walk_to held record_size run index ≡ Ok x → IsCut held record_size run index → x ≡ target run old index
   unfolding old_of first_at last_at
   old_stays level index x out inside is cut =
@@ -325,7 +325,7 @@ module _ (held : List (List ℕ)) (record_size : ℕ) (run : Run) (ready : IsRun
 
 -- ---- the top
 
-levels_room : (blocks : ℕ) → blocks ≤ 8388608 → blocks ≤ 32 ^ levels_for blocks
+pub levels_room : (blocks : ℕ) → blocks ≤ 8388608 → blocks ≤ 32 ^ levels_for blocks
 levels_room blocks few =
     elim (cases_lt 32 blocks) [
       | inr one ↦ let is : nat_le blocks 32 ≡ true = grind (arith, one) in rw is (omega (arith, one))
@@ -350,7 +350,7 @@ levels_room blocks few =
     ]
 
 -- the touched blocks are blocks
-first_within : (run : Run) → run.from + length run.refs ≤ run.blocks → 0 < run.blocks → first_block run < run.blocks
+pub first_within : (run : Run) → run.from + length run.refs ≤ run.blocks → 0 < run.blocks → first_block run < run.blocks
 first_within run within some =
     elim (cases_lt 0 (length run.refs)) [
       | inl full ↦
@@ -386,3 +386,40 @@ tree_leads held record_size run index ready passes some small known cut =
     let there = subst (λ (l : ℕ). walk (held ++ (levels_made run (old_of held record_size run) (length held) (levels_for run.blocks)).puts) record_size index (levels_for run.blocks - 1)
         (new_ref run (old_of held record_size run) l (levels_made run (old_of held record_size run) (length held) l) (place_of l index)) ≡ Ok (target run (old_of held record_size run) index)) levels found in
     rw (puts_are held record_size run ready some, top_is_new held record_size run ready some, ← first) there
+
+-- ---- the laws
+
+small_enough : (run : Run) (index : ℕ) → run.blocks ≤ 8388608 → index < run.blocks → index < 32 ^ levels_for run.blocks
+small_enough run index few within = omega (arith, levels_room run.blocks few, within)
+
+pub leads_within : (held : List (List ℕ)) (record_size : ℕ) (run : Run) (index : ℕ) → IsRunOn held record_size run → Passes held record_size run
+    → run.from ≤ index → index < run.from + length run.refs
+    → walk_after held record_size run index ≡ Ok (get_or run.refs (index - run.from) None)
+unfolding target tree_of
+leads_within held record_size run index ready passes from to =
+    let low : nat_le run.from index ≡ true = grind (arith, from) in
+    let high : nat_lt index (run.from + length run.refs) ≡ true = grind (arith, to) in
+    let within : index < run.blocks = omega (arith, to, ready.within) in
+    let inside : nat_le run.blocks index ≡ false = grind (arith, within) in
+    let found = tree_leads held record_size run index ready passes (omega (arith, within)) (small_enough run index ready.few within) (inl (rw (low, high) refl)) (inl within) in
+    rw (inside, low, high) at found
+
+pub leads_elsewhere : (held : List (List ℕ)) (record_size : ℕ) (run : Run) (index : ℕ) (found : Option BlockRef) → IsRunOn held record_size run → Passes held record_size run
+    → in_run run index ≡ false → index < run.blocks → walk_to held record_size run index ≡ Ok found → walk_after held record_size run index ≡ Ok found
+unfolding old_of tree_of
+leads_elsewhere held record_size run index found ready passes out within is =
+    tree_leads held record_size run index ready passes (omega (arith, within)) (small_enough run index ready.few within) (inr (found, is)) (inl within)
+    ∙ ap (λ (o : Option BlockRef). let r : Result (Option BlockRef) MacError = Ok o in r) (target_outside run (old_of held record_size run) index out within ∙ ap or_hole is)
+
+pub leads_before : (held : List (List ℕ)) (record_size : ℕ) (run : Run) (index : ℕ) (found : Option BlockRef) → IsRunOn held record_size run → Passes held record_size run
+    → index < run.from → walk_to held record_size run index ≡ Ok found → walk_after held record_size run index ≡ Ok found
+leads_before held record_size run index found ready passes before is =
+    let no : nat_le run.from index ≡ false = grind (arith, before) in
+    leads_elsewhere held record_size run index found ready passes (rw no refl) (omega (arith, before, ready.within)) is
+
+pub leads_behind : (held : List (List ℕ)) (record_size : ℕ) (run : Run) (index : ℕ) (found : Option BlockRef) → IsRunOn held record_size run → Passes held record_size run
+    → run.from + length run.refs ≤ index → index < run.blocks → walk_to held record_size run index ≡ Ok found → walk_after held record_size run index ≡ Ok found
+leads_behind held record_size run index found ready passes behind within is =
+    let low : nat_le run.from index ≡ true = grind (arith, behind) in
+    let no : nat_lt index (run.from + length run.refs) ≡ false = grind (arith, behind) in
+    leads_elsewhere held record_size run index found ready passes (rw (low, no) refl) within is

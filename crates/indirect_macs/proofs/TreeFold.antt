@@ -259,7 +259,7 @@ pub record Covers (held : List (List ℕ)) (record_size : ℕ) (f : ℕ → Opti
 pub ok_same : {X : Type 0} (x y : X) → (let found : Result X MacError = Ok x in found) ≡ Ok y → x ≡ y
 ok_same x y is = cc
 
-covers_none : (held : List (List ℕ)) (record_size : ℕ) (f : ℕ → Option BlockRef) (below j s : ℕ) → s < 32 → Covers held record_size f (suc below) j None
+pub covers_none : (held : List (List ℕ)) (record_size : ℕ) (f : ℕ → Option BlockRef) (below j s : ℕ) → s < 32 → Covers held record_size f (suc below) j None
     → Covers held record_size f below (32 * j + s) None
 covers_none held record_size f below j s within covers =
     record {
@@ -268,7 +268,7 @@ covers_none held record_size f below j s within covers =
       filled = λ index depth place bytes at is there. let none = no_place held index below depth in absurd (cc);
     }
 
-covers_child : (held : List (List ℕ)) (record_size : ℕ) (f : ℕ → Option BlockRef) (below j s : ℕ) (node : NodeRef) (bytes : List ℕ) → s < 32
+pub covers_child : (held : List (List ℕ)) (record_size : ℕ) (f : ℕ → Option BlockRef) (below j s : ℕ) (node : NodeRef) (bytes : List ℕ) → s < 32
     → passed held record_size (below + 2) node ≡ Some bytes → Covers held record_size f (suc below) j (Some node)
     → Covers held record_size f below (32 * j + s) (node_at (entry_at (below + 2) bytes s))
 covers_child held record_size f below j s node bytes within passes covers =
@@ -282,7 +282,7 @@ covers_child held record_size f below j s node bytes within passes covers =
           ∙ ap (λ (slot : ℕ). place_at held index below (node_at (entry_at (below + 2) bytes slot)) depth) (slot_above below index j s within at) ∙ is) there;
     }
 
-top_filled : (held : List (List ℕ)) (record_size : ℕ) (f : ℕ → Option BlockRef) (below j : ℕ) (node : NodeRef) (bytes : List ℕ)
+pub top_filled : (held : List (List ℕ)) (record_size : ℕ) (f : ℕ → Option BlockRef) (below j : ℕ) (node : NodeRef) (bytes : List ℕ)
     → Covers held record_size f below j (Some node) → slice_get held node.addr ≡ Some bytes → is_empty_node (below + 1) bytes ≡ false
 unfolding place_at
 top_filled held record_size f zero j node bytes covers there =

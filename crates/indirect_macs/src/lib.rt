@@ -19,7 +19,9 @@ pub use laws::{
     walks_stop_at_the_first_place_that_fails,
 };
 pub use refs::{BlockRef, MacError, NodeRef, ObjTree};
-pub use run_laws::{runs_touch_few_nodes, tops_are_folds};
+pub use run_laws::{
+    runs_change_their_blocks_alone, runs_keep_older_trees, runs_touch_few_nodes, tops_are_folds,
+};
 pub use walk::lookup;
 
 #[cfg(test)]

@@ -1,9 +1,10 @@
 // Laws of trees and of the run. The functions do nothing.
-ghost use Rattle.std.specs.Prelude.{◌≡◌, ◌+◌, ◌/◌, ◌^◌, ◌<◌, ◌≤◌, suc, ℕ, List, Option, length};
+ghost use Rattle.std.specs.Prelude.{◌≡◌, ◌+◌, ◌-◌, ◌/◌, ◌^◌, ◌<◌, ◌≤◌, suc, ℕ, List, Option, None, Ok, length, slice_index_or};
 ghost use Rattle.std.specs.Option.{option_map};
 ghost use Rattle.indirect_macs.specs.Fold.{fold_mac};
-ghost use Rattle.indirect_macs.specs.Runs.{Old, Run, levels_for, most_puts, most_reads, puts_of};
-ghost use Rattle.indirect_macs.specs.Trees.{HasNoEmptyNodes, HoldsBytes, LeadsTo};
+ghost use Rattle.indirect_macs.specs.Runs.{Old, Passes, Run, levels_for, most_puts, most_reads, puts_of, walk_to};
+ghost use Rattle.indirect_macs.specs.Trees.{HasNoEmptyNodes, HoldsBytes, IsRunOn, LeadsTo, held_after, walk_after};
+ghost use Rattle.indirect_macs.specs.Walk.{walk};
 ghost use Rattle.indirect_macs.specs.declared.refs.BlockRef.{BlockRef};
 ghost use Rattle.indirect_macs.specs.declared.refs.NodeRef.{NodeRef};
 
@@ -26,4 +27,28 @@ pub fn runs_touch_few_nodes()
         → run.blocks ≤ 8388608 → most_puts run ≤ length run.refs / 31 + 9 }
     ensures grows { (run : Run) → 1 ≤ run.levels → run.from + length run.refs ≤ run.blocks
         → run.blocks ≤ 8388608 → most_puts run ≤ length run.refs / 31 + 12 }
+{}
+
+/// Where the nodes over a run pass, the walks of the new tree are those of the old one with the run
+/// put in: within the run they give its references, whatever the old tree led to, and each block
+/// elsewhere that the old tree led to is found as before, and a hole beyond the old tree.
+pub fn runs_change_their_blocks_alone()
+    ensures within { (held : List (List ℕ)) (record_size : ℕ) (run : Run) (index : ℕ) → IsRunOn held record_size run
+        → Passes held record_size run → run.from ≤ index → index < run.from + length run.refs
+        → walk_after held record_size run index ≡ Ok (slice_index_or run.refs (index - run.from) None) }
+    ensures before { (held : List (List ℕ)) (record_size : ℕ) (run : Run) (index : ℕ) (found : Option BlockRef)
+        → IsRunOn held record_size run → Passes held record_size run → index < run.from
+        → walk_to held record_size run index ≡ Ok found → walk_after held record_size run index ≡ Ok found }
+    ensures behind { (held : List (List ℕ)) (record_size : ℕ) (run : Run) (index : ℕ) (found : Option BlockRef)
+        → IsRunOn held record_size run → Passes held record_size run → run.from + length run.refs ≤ index
+        → index < run.blocks → walk_to held record_size run index ≡ Ok found
+        → walk_after held record_size run index ≡ Ok found }
+{}
+
+/// What is put for a run changes nothing of an older tree on the same shelf, as that of a snapshot:
+/// a walk that found a block or a hole finds the same.
+pub fn runs_keep_older_trees()
+    ensures { (held : List (List ℕ)) (record_size : ℕ) (run : Run) (index below : ℕ) (top : Option NodeRef) (found : Option BlockRef)
+        → walk held record_size index below top ≡ Ok found
+        → walk (held_after held record_size run) record_size index below top ≡ Ok found }
 {}
