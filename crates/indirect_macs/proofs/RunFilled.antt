@@ -41,7 +41,7 @@ same_some o x y is also = cc
 
 filled_leaf : (held : List (List ℕ)) (record_size j : ℕ) (e : ℕ → Option BlockRef) (r : Option NodeRef) → Entries block_at held record_size 1 e r → Filled held zero j r
 unfolding Filled Entries place_at
-filled_leaf held record_size j e None holes = filled_none held zero j
+filled_leaf held record_size j e None holes index depth place bytes at is there = filled_none held zero j index depth place bytes at is there
 filled_leaf held record_size j e (Some node) has index zero place bytes at is there =
     let here : record { level = 1; node = node } ≡ place = cc in
     let found : slice_get held node.addr ≡ Some bytes = subst (λ (p : Place). slice_get held p.node.addr ≡ Some bytes) (sym here) there in
@@ -52,7 +52,7 @@ filled_leaf held record_size j e (Some node) has index (suc depth) place bytes a
 filled_inner : (held : List (List ℕ)) (record_size low j : ℕ) (e : ℕ → Option NodeRef) (r : Option NodeRef) → Entries node_at held record_size (low + 2) e r
     → ((s : ℕ) → s < 32 → Filled held low (32 * j + s) (e s)) → Filled held (suc low) j r
 unfolding Filled Entries place_at
-filled_inner held record_size low j e None holes each = filled_none held (suc low) j
+filled_inner held record_size low j e None holes each index depth place bytes at is there = filled_none held (suc low) j index depth place bytes at is there
 filled_inner held record_size low j e (Some node) has each index zero place bytes at is there =
     let here : record { level = suc low + 1; node = node } ≡ place = cc in
     let level : low + 2 ≡ suc low + 1 = omega arith in
@@ -164,3 +164,112 @@ found_filled held record_size run (suc depth) low i is filled =
     let child = filled_below held record_size low i (found_at held record_size run (low + 2) (i / 32)) here in
     let back = subst (λ (l : ℕ). Filled held low i (or_hole (goes_on (λ r. child_of held record_size l i r) (λ failed. Err failed) (found_at held record_size run l (i / 32))))) (sym up) child in
     subst (λ (r : Result (Option NodeRef) MacError). Filled held low i (or_hole r)) (sym (found_child held record_size run (low + 1) i (omega (arith, is)))) back
+
+-- ---- the new tree
+
+module _ (held : List (List ℕ)) (record_size : ℕ) (run : Run) (ready : IsRunOn held record_size run) (some : 0 < run.blocks) (passes : Passes held record_size run)
+    (known : (index : ℕ) → (x : Option BlockRef) × (walk_to held record_size run index ≡ Ok x)) (filled : Filled held (run.levels - 1) 0 run.top) where
+  abbrev old : Old
+  old = old_of held record_size run
+
+  abbrev made : ℕ → Made
+  made level = levels_made run old (length held) level
+
+  abbrev after : List (List ℕ)
+  after = held ++ (made (levels_for run.blocks)).puts
+
+  -- an old node that isn't touched
+  old_filled : (low j : ℕ) → low + 1 ≤ run.levels → Filled after low j (old.node (low + 1) j)
+  unfolding old_of Walks
+  old_filled low j within =
+      filled_grown held (made (levels_for run.blocks)).puts record_size low j (or_hole (found_at held record_size run (low + 1) j))
+      (λ index at.
+      let went = goes_ok (λ next. walk held record_size index low next) (found_at held record_size run (low + 1) (place_of (low + 1) index)) (known index).0
+          (sym (walk_by_place held record_size run low index within) ∙ (known index).1) in
+      ((known index).0,
+      ap (λ (r : Result (Option NodeRef) MacError). walk held record_size index low (or_hole r))
+      (ap (found_at held record_size run (low + 1)) (sym at) ∙ went.1) ∙ went.2))
+      (found_filled held record_size run (run.levels - (low + 1)) low j (omega (arith, within)) filled)
+
+  top_stays : (low : ℕ) → run.levels ≡ low + 1 → Filled after low 0 (made (low + 1)).raised
+  unfolding old_of
+  top_stays low level =
+      let top : old.node (low + 1) 0 ≡ run.top = ap (λ (l : ℕ). or_hole (found_at held record_size run l 0)) (sym level) ∙ ap or_hole (found_top held record_size run 0) in
+      subst (Filled after low 0) (sym (raised_stays run old (length held) (low + 1) (omega (arith, level))))
+      (subst (Filled after low 0) top (old_filled low 0 (omega (arith, level))))
+
+  raised_step_filled : (low : ℕ) → low + 2 ≤ levels_for run.blocks → run.levels < low + 2 → 0 < first_at run (low + 2)
+      → ((run.levels < low + 1 → 0 < first_at run (low + 1)) → Filled after low 0 (made (low + 1)).raised) → Filled after (suc low) 0 (made (low + 2)).raised
+  unfolding first_at
+  raised_step_filled low most above first below =
+      let high : nat_lt run.levels (low + 2) ≡ true = grind (arith, above) in
+      let later : nat_lt 0 (first_at run (low + 2)) ≡ true = grind (arith, first) in
+      let up : low + 1 + 1 ≡ low + 2 = omega arith in
+      let lower : first_block run / 32 ^ (low + 1) / 32 ≡ first_block run / 32 ^ (low + 2) = child_place (low + 1) (first_block run) ∙ ap (λ (l : ℕ). place_of l (first_block run)) up in
+      let positive : 0 < first_at run (low + 1) = omega (arith, lower, first) in
+      filled_inner after record_size low 0 _ (made (low + 2)).raised (raised_entries held record_size run ready some low most (rw (high, later) refl))
+      (λ s within. by_slot (below (λ over. positive)) s within)
+    where
+      by_slot : Filled after low 0 (made (low + 1)).raised → (s : ℕ) → s < 32
+          → Filled after low (32 * 0 + s) (get_or ((made (low + 1)).raised ∷ replicate 31 None) s None)
+      by_slot first zero within = first
+      by_slot first (suc k) within =
+          subst (Filled after low (32 * 0 + suc k)) (sym (get_or-replicate 31 k None None (omega (arith, within)))) (filled_none after low (32 * 0 + suc k))
+
+  raised_filled : (low : ℕ) → low + 1 ≤ levels_for run.blocks → run.levels ≤ low + 1 → (run.levels < low + 1 → 0 < first_at run (low + 1))
+      → Filled after low 0 (made (low + 1)).raised
+  raised_filled zero most high first = top_stays zero (omega (arith, high, ready.levels))
+  raised_filled (suc low) most high first =
+      let level : suc low + 1 ≡ low + 2 = omega arith in
+      elim (cases_lt run.levels (suc low + 1)) [
+        | inr same ↦ top_stays (suc low) (omega (arith, same, high))
+        | inl above ↦
+            subst (λ (l : ℕ). Filled after (suc low) 0 (made l).raised) (sym level)
+            (raised_step_filled low (omega (arith, most)) (omega (arith, above)) (subst (λ (l : ℕ). 0 < first_at run l) level (first above))
+            (λ positive. raised_filled low (omega (arith, most)) (omega (arith, above)) positive))
+      ]
+
+  untouched_filled : (low j : ℕ) → low + 1 ≤ levels_for run.blocks → Outside run (low + 1) j → Filled after low j (new_ref run old (low + 1) (made (low + 1)) j)
+  untouched_filled low j most out =
+      new_ref_cases (Filled after low j) run old (low + 1) j (made (low + 1))
+      (λ from to. elim out [
+        | inl less ↦ absurd (omega (arith, less, from))
+        | inr more ↦ absurd (omega (arith, more, to))
+      ])
+      (λ _ past. filled_none after low j)
+      (λ _ inside above first.
+      subst (λ (k : ℕ). Filled after low k (made (low + 1)).raised) (sym first) (raised_filled low most (omega (arith, above)) (λ _. starts first)))
+      (λ _ above later. filled_none after low j)
+      (λ _ inside within. old_filled low j within)
+    where
+      starts : j ≡ 0 → 0 < first_at run (low + 1)
+      starts first = elim out [
+        | inl less ↦ omega (arith, less)
+        | inr more ↦ absurd (omega (arith, more, first))
+      ]
+
+  pub new_filled : (low j : ℕ) → low + 1 ≤ levels_for run.blocks → Filled after low j (new_ref run old (low + 1) (made (low + 1)) j)
+  new_filled zero j most =
+      elim (cases_lt j (first_at run 1)) [
+        | inl before ↦ untouched_filled zero j most (inl before)
+        | inr from ↦
+            elim (cases_lt (last_at run 1) j) [
+              | inl after_last ↦ untouched_filled zero j most (inr after_last)
+              | inr to ↦ filled_leaf after record_size j _ (new_ref run old 1 (made 1) j) (touched_leaf held record_size run ready some passes j from to)
+            ]
+      ]
+  new_filled (suc low) j most =
+      let level : suc low + 1 ≡ low + 2 = omega arith in
+      elim (cases_lt j (first_at run (suc low + 1))) [
+        | inl before ↦ untouched_filled (suc low) j most (inl before)
+        | inr from ↦
+            elim (cases_lt (last_at run (suc low + 1)) j) [
+              | inl after_last ↦ untouched_filled (suc low) j most (inr after_last)
+              | inr to ↦
+                  subst (λ (l : ℕ). Filled after (suc low) j (new_ref run old l (made l) j)) (sym level)
+                  (filled_inner after record_size low j _ (new_ref run old (low + 2) (made (low + 2)) j)
+                  (touched_inner held record_size run ready some passes low j (omega (arith, most))
+                  (subst (λ (l : ℕ). first_at run l ≤ j) level from) (subst (λ (l : ℕ). j ≤ last_at run l) level to))
+                  (λ s within. new_filled low (32 * j + s) (omega (arith, most))))
+            ]
+      ]
