@@ -33,7 +33,7 @@ mac_at below f j = raised 1 below (λ i. group_mac 1 block_under_mac (under f i)
 
 -- ---- a group is its 32 entries
 
-padded : {A : Type 0} (xs : List A) (n i : ℕ) (d : A) → get_or (xs ++ replicate n d) i d ≡ get_or xs i d
+pub padded : {A : Type 0} (xs : List A) (n i : ℕ) (d : A) → get_or (xs ++ replicate n d) i d ≡ get_or xs i d
 padded [] zero i d = refl
 padded [] (suc n) zero d = refl
 padded [] (suc n) (suc i) d = padded [] n i d

@@ -16,3 +16,4 @@ pub mod RunOld
 pub mod RunEntries
 pub mod RunLeads
 pub mod RunFilled
+pub mod RunTrees

@@ -25,12 +25,12 @@ use Rattle.indirect_macs.proofs.RunEntries.{new_ref_cases, touched_leaf, touched
 use Rattle.indirect_macs.proofs.RunLeads.{Outside, from_parts}
 
 -- no node under a place is empty
-pub Filled : (held : List (List ℕ)) → (below j : ℕ) → Option NodeRef → Type 0
+unfoldable pub Filled : (held : List (List ℕ)) → (below j : ℕ) → Option NodeRef → Type 0
 Filled held below j top =
     (index depth : ℕ) (place : Place) (node : List ℕ) → place_of (below + 1) index ≡ j → place_at held index below top depth ≡ Some place
     → slice_get held place.node.addr ≡ Some node → is_empty_node place.level node ≡ false
 
-filled_none : (held : List (List ℕ)) (below j : ℕ) → Filled held below j None
+pub filled_none : (held : List (List ℕ)) (below j : ℕ) → Filled held below j None
 unfolding Filled
 filled_none held below j index depth place node at is there =
     let none = no_place held index below depth in
@@ -86,7 +86,7 @@ node_filled held (suc below) j node bytes filled there =
     filled (j * 32 ^ (suc below + 1)) zero (record { level = suc below + 1; node = node }) bytes (first_under (suc below + 1) j) refl there
 
 -- the walks under a place pass
-Walks : (held : List (List ℕ)) → (record_size below j : ℕ) → Option NodeRef → Type 0
+unfoldable pub Walks : (held : List (List ℕ)) → (record_size below j : ℕ) → Option NodeRef → Type 0
 Walks held record_size below j top = (index : ℕ) → place_of (below + 1) index ≡ j → (x : Option BlockRef) × (walk held record_size index below top ≡ Ok x)
 
 walks_child : (held : List (List ℕ)) (record_size low j s : ℕ) (node : NodeRef) (bytes : List ℕ) → s < 32 → passed held record_size (low + 2) node ≡ Some bytes
@@ -98,7 +98,7 @@ walks_child held record_size low j s node bytes within passes walks index at =
     ∙ sym (walk_through held record_size index low node bytes passes) ∙ found.1)
 
 -- a longer shelf keeps this
-filled_grown : (held more : List (List ℕ)) (record_size below j : ℕ) (top : Option NodeRef) → Walks held record_size below j top → Filled held below j top
+pub filled_grown : (held more : List (List ℕ)) (record_size below j : ℕ) (top : Option NodeRef) → Walks held record_size below j top → Filled held below j top
     → Filled (held ++ more) below j top
 unfolding Walks Entries
 filled_grown held more record_size below j None walks filled = filled_none (held ++ more) below j

@@ -1,5 +1,5 @@
 -- What a tree leads to, and trees in which no node without references is stored.
-use Rattle.std.specs.Prelude.{ℕ, ◌+◌, ◌-◌, ◌^◌, ◌<◌, ◌≤◌, ◌≡◌, ◌==◌, ◌&&◌, Bool, false, nat_le, nat_lt, if◌then◌else◌, List, ◌++◌, length, map, slice_index, Option, Some, None, IfSome, All, Result, Ok}
+use Rattle.std.specs.Prelude.{ℕ, ◌+◌, ◌-◌, ◌^◌, ◌<◌, ◌≤◌, ◌≡◌, ◌⊎◌, ◌==◌, ◌&&◌, Bool, false, nat_le, nat_lt, if◌then◌else◌, List, ◌++◌, length, map, slice_index, Option, Some, None, IfSome, All, Result, Ok}
 use Rattle.std.specs.List.{list_all, range_with_len, slice_get, slice_index_or}
 use Rattle.indirect_macs.specs.declared.refs.BlockRef.{BlockRef}
 use Rattle.indirect_macs.specs.declared.refs.NodeRef.{NodeRef}
@@ -9,7 +9,7 @@ use Rattle.indirect_macs.specs.Entries.{IsBlockRef, IsNodeRef}
 use Rattle.indirect_macs.specs.Nodes.{entry_at, slots}
 use Rattle.indirect_macs.specs.Walk.{walk}
 use Rattle.indirect_macs.specs.Places.{Place, place_at}
-use Rattle.indirect_macs.specs.Runs.{Run, old_of, puts_of, tree_of, levels_for}
+use Rattle.indirect_macs.specs.Runs.{Run, old_of, puts_of, tree_of, levels_for, last_block}
 
 -- each held block is of bytes
 abbrev pub HoldsBytes : List (List ℕ) → Type 0
@@ -52,6 +52,10 @@ abbrev pub walk_after : (held : List (List ℕ)) → (record_size : ℕ) → Run
 walk_after held record_size run index =
     let tree = tree_after held record_size run in walk (held_after held record_size run) record_size index (tree.levels - 1) tree.top
 
+-- the tree that the run is put into
+abbrev pub tree_before : Run → ObjTree
+tree_before run = record { levels = run.levels; top = run.top }
+
 -- a tree of these references in its one spelling: of the fewest levels with room for them, where every walk leads to its reference, or to a hole behind them, and no node is without references
 pub record IsTree (held : List (List ℕ)) (record_size : ℕ) (tree : ObjTree) (refs : List (Option BlockRef)) : Type 0 where
   pub levels : tree.levels ≡ levels_for (length refs)
@@ -65,3 +69,7 @@ with_run run refs =
     map
     (λ index. if nat_le run.from index && nat_lt index (run.from + length run.refs) then slice_index_or run.refs (index - run.from) None else slice_index_or refs index None)
     (range_with_len 0 run.blocks)
+
+-- no old reference stays behind the new number of blocks: the run touches the last block, or there is none
+abbrev pub LosesAll : Run → List (Option BlockRef) → Type 0
+LosesAll run refs = (last_block run ≡ run.blocks - 1) ⊎ (length refs ≤ run.blocks)

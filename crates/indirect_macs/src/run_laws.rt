@@ -1,20 +1,33 @@
 // Laws of trees and of the run. The functions do nothing.
-ghost use Rattle.std.specs.Prelude.{◌≡◌, ◌+◌, ◌-◌, ◌/◌, ◌^◌, ◌<◌, ◌≤◌, suc, ℕ, List, Option, None, Ok, length, slice_index_or};
+ghost use Rattle.std.specs.Prelude.{◌≡◌, ◌+◌, ◌-◌, ◌/◌, ◌<◌, ◌≤◌, ◌++◌, ℕ, List, Option, None, Ok, length, replicate, slice_index_or};
 ghost use Rattle.std.specs.Option.{option_map};
 ghost use Rattle.indirect_macs.specs.Fold.{fold_mac};
 ghost use Rattle.indirect_macs.specs.Runs.{Old, Passes, Run, levels_for, most_puts, most_reads, puts_of, walk_to};
-ghost use Rattle.indirect_macs.specs.Trees.{HasNoEmptyNodes, HoldsBytes, IsRunOn, LeadsTo, held_after, walk_after};
+ghost use Rattle.indirect_macs.specs.Trees.{HoldsBytes, IsRunOn, IsTree, LosesAll, held_after, tree_after, tree_before, walk_after, with_run};
 ghost use Rattle.indirect_macs.specs.Walk.{walk};
 ghost use Rattle.indirect_macs.specs.declared.refs.BlockRef.{BlockRef};
 ghost use Rattle.indirect_macs.specs.declared.refs.NodeRef.{NodeRef};
+ghost use Rattle.indirect_macs.specs.declared.refs.ObjTree.{ObjTree};
 
-/// A tree of the fewest levels for its blocks, in which no node of holes alone is stored, has the
-/// MAC of the references that it leads to.
+/// A tree in its one spelling has the MAC of the references that it leads to.
 pub fn tops_are_folds()
-    ensures { (held : List (List ℕ)) (record_size below : ℕ) (top : Option NodeRef) (refs : List (Option BlockRef))
-        → HoldsBytes held → length refs ≤ 32 ^ (below + 1) → ((lower : ℕ) → below ≡ suc lower → 32 ^ below < length refs)
-        → LeadsTo held record_size below top refs → HasNoEmptyNodes held below top
-        → option_map (λ node. node.mac) top ≡ fold_mac refs }
+    ensures { (held : List (List ℕ)) (record_size : ℕ) (tree : ObjTree) (refs : List (Option BlockRef)) → HoldsBytes held
+        → IsTree held record_size tree refs → option_map (λ node. node.mac) tree.top ≡ fold_mac refs }
+{}
+
+/// Trees in their one spelling. A tree of holes is one; a longer shelf keeps one. No walk in one
+/// fails, so that a run into it passes, and where the run loses all that stands behind the new
+/// number of blocks it makes such a tree again, of the references with the run put in.
+pub fn runs_keep_trees()
+    ensures holes { (held : List (List ℕ)) (record_size blocks : ℕ) → blocks ≤ 8388608
+        → IsTree held record_size (record { levels = levels_for blocks; top = None }) (replicate blocks None) }
+    ensures grown { (held more : List (List ℕ)) (record_size : ℕ) (tree : ObjTree) (refs : List (Option BlockRef))
+        → IsTree held record_size tree refs → IsTree (held ++ more) record_size tree refs }
+    ensures passes { (held : List (List ℕ)) (record_size : ℕ) (run : Run) (refs : List (Option BlockRef)) → 1 ≤ run.levels
+        → IsTree held record_size (tree_before run) refs → Passes held record_size run }
+    ensures kept { (held : List (List ℕ)) (record_size : ℕ) (run : Run) (refs : List (Option BlockRef))
+        → IsRunOn held record_size run → IsTree held record_size (tree_before run) refs → LosesAll run refs
+        → IsTree (held_after held record_size run) record_size (tree_after held record_size run) (with_run run refs) }
 {}
 
 /// A run of `n` references reads at most `n / 31 + 9` nodes, and puts as many at most where the tree
