@@ -17,3 +17,4 @@ pub mod RunEntries
 pub mod RunLeads
 pub mod RunFilled
 pub mod RunTrees
+pub mod RunBytes

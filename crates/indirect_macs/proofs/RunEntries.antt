@@ -69,7 +69,7 @@ slot_entry refs j s d within = get_or-map-range_with_len (λ slot. refs (32 * j 
 length-entries : {A : Type 0} (refs : ℕ → A) (j : ℕ) → length (entries_at refs j) ≡ 32
 length-entries refs j = length-slots (λ slot. refs (32 * j + slot))
 
-all_entries : {A : Type 0} (P : A → Type 0) (refs : ℕ → A) (j : ℕ) → ((index : ℕ) → P (refs index)) → All P (entries_at refs j)
+pub all_entries : {A : Type 0} (P : A → Type 0) (refs : ℕ → A) (j : ℕ) → ((index : ℕ) → P (refs index)) → All P (entries_at refs j)
 all_entries P refs j each =
     λ k d within. subst P (sym (slot_entry refs j k d (omega (arith, within, length-entries refs j)))) (each (32 * j + k))
 

@@ -201,55 +201,74 @@ block_entry_fits held record_size s node bytes fair within is =
     tagged_block record_size (take 49 (drop (49 * s) bytes)) (part_of 49 s bytes passes.whole within) (bytes_of_part (49 * s) 49 bytes (fair node.addr bytes passes.there))
     (each_passed (λ s. is_entry 1 record_size (entry_at 1 bytes s)) 32 s within passes.entries)
 
-child_fits : (held : List (List ℕ)) (record_size level index : ℕ) (above : Result (Option NodeRef) MacError) → HoldsBytes held → 2 ≤ level
-    → IfSome (or_hole (goes_on (λ r. child_of held record_size level index r) (λ failed. Err failed) above)) IsNodeRef
+-- each old reference is a hole, the top, or an entry of a node that passes
+child_any : (held : List (List ℕ)) (record_size level index : ℕ) (P : Option NodeRef → Type 0) (above : Result (Option NodeRef) MacError) → P None
+    → ((s : ℕ) (node : NodeRef) (bytes : List ℕ) → s < 32 → passed held record_size level node ≡ Some bytes → P (node_at (entry_at level bytes s)))
+    → P (or_hole (goes_on (λ r. child_of held record_size level index r) (λ failed. Err failed) above))
 unfolding child_of
-child_fits held record_size level index (Err failed) fair high = tt
-child_fits held record_size level index (Ok None) fair high = tt
-child_fits held record_size level index (Ok (Some node)) fair high = by_passed (passed held record_size level node) refl
+child_any held record_size level index P (Err failed) none each = none
+child_any held record_size level index P (Ok None) none each = none
+child_any held record_size level index P (Ok (Some node)) none each = by_passed (passed held record_size level node) refl
   where
     by_passed : (p : Option (List ℕ)) → passed held record_size level node ≡ p
-        → IfSome (or_hole (option_map_or (λ bytes. Ok (node_at (entry_at level bytes (index % 32)))) p (Err (MacFailed level (index / 32))))) IsNodeRef
-    by_passed None is = tt
-    by_passed (Some bytes) is = node_entry_fits held record_size level (index % 32) node bytes fair high (omega arith) is
+        → P (or_hole (option_map_or (λ bytes. Ok (node_at (entry_at level bytes (index % 32)))) p (Err (MacFailed level (index / 32)))))
+    by_passed None is = none
+    by_passed (Some bytes) is = each (index % 32) node bytes (omega arith) is
 
-found_fits : (held : List (List ℕ)) (record_size levels : ℕ) (top : Option NodeRef) (depth index : ℕ) → HoldsBytes held → IfSome top IsNodeRef → depth < levels
-    → IfSome (or_hole (found_below held record_size levels top depth index)) IsNodeRef
+found_any : (held : List (List ℕ)) (record_size levels : ℕ) (top : Option NodeRef) (depth index : ℕ) (P : Option NodeRef → Type 0) → P None → P top → depth < levels
+    → ((level s : ℕ) (node : NodeRef) (bytes : List ℕ) → 2 ≤ level → s < 32 → passed held record_size level node ≡ Some bytes → P (node_at (entry_at level bytes s)))
+    → P (or_hole (found_below held record_size levels top depth index))
 unfolding found_below
-found_fits held record_size levels top zero index fair fits low = by_first (index == 0)
+found_any held record_size levels top zero index P none whole low each = by_first (index == 0)
   where
-    by_first : (b : Bool) → IfSome (if b then top else None) IsNodeRef
-    by_first true = fits
-    by_first false = tt
-found_fits held record_size levels top (suc depth) index fair fits low =
-    child_fits held record_size (levels - depth) index (found_below held record_size levels top depth (index / 32)) fair (omega (arith, low))
+    by_first : (b : Bool) → P (if b then top else None)
+    by_first true = whole
+    by_first false = none
+found_any held record_size levels top (suc depth) index P none whole low each =
+    child_any held record_size (levels - depth) index P (found_below held record_size levels top depth (index / 32)) none
+    (λ s node bytes within is. each (levels - depth) s node bytes (omega (arith, low)) within is)
+
+pub old_node_any : (held : List (List ℕ)) (record_size : ℕ) (run : Run) (level index : ℕ) (P : Option NodeRef → Type 0) → P None → P run.top → 1 ≤ level
+    → ((level s : ℕ) (node : NodeRef) (bytes : List ℕ) → 2 ≤ level → s < 32 → passed held record_size level node ≡ Some bytes → P (node_at (entry_at level bytes s)))
+    → P ((old_of held record_size run).node level index)
+unfolding old_of
+old_node_any held record_size run level index P none whole some each =
+    elim (cases_lt run.levels level) [
+      | inl high ↦ rw (found_above held record_size run level index high) none
+      | inr low ↦
+          rw (found_within held record_size run level index low)
+          (found_any held record_size run.levels run.top (run.levels - level) index P none whole (omega (arith, some, low)) each)
+    ]
 
 pub old_node_fits : (held : List (List ℕ)) (record_size : ℕ) (run : Run) (level index : ℕ) → HoldsBytes held → IfSome run.top IsNodeRef → 1 ≤ level
     → IfSome ((old_of held record_size run).node level index) IsNodeRef
-unfolding old_of
 old_node_fits held record_size run level index fair fits some =
-    elim (cases_lt run.levels level) [
-      | inl high ↦ rw (found_above held record_size run level index high) tt
-      | inr low ↦
-          rw (found_within held record_size run level index low)
-          (found_fits held record_size run.levels run.top (run.levels - level) index fair fits (omega (arith, some, low)))
-    ]
+    old_node_any held record_size run level index (λ o. IfSome o IsNodeRef) tt fits some
+    (λ l s node bytes high within is. node_entry_fits held record_size l s node bytes fair high within is)
 
-last_fits : (held : List (List ℕ)) (record_size index : ℕ) (above : Result (Option NodeRef) MacError) → HoldsBytes held
-    → IfSome (or_hole (goes_on (λ next. walk held record_size index 0 next) (λ failed. Err failed) above)) (IsBlockRef record_size)
+last_any : (held : List (List ℕ)) (record_size index : ℕ) (P : Option BlockRef → Type 0) (above : Result (Option NodeRef) MacError) → P None
+    → ((s : ℕ) (node : NodeRef) (bytes : List ℕ) → s < 32 → passed held record_size 1 node ≡ Some bytes → P (block_at (entry_at 1 bytes s)))
+    → P (or_hole (goes_on (λ next. walk held record_size index 0 next) (λ failed. Err failed) above))
 unfolding walk next_block
-last_fits held record_size index (Err failed) fair = tt
-last_fits held record_size index (Ok None) fair = tt
-last_fits held record_size index (Ok (Some node)) fair = by_passed (passed held record_size 1 node) refl
+last_any held record_size index P (Err failed) none each = none
+last_any held record_size index P (Ok None) none each = none
+last_any held record_size index P (Ok (Some node)) none each = by_passed (passed held record_size 1 node) refl
   where
     by_passed : (p : Option (List ℕ)) → passed held record_size 1 node ≡ p
-        → IfSome (or_hole (option_map_or (λ bytes. Ok (block_at (entry_at 1 bytes (slot_of 1 index)))) p (Err (fails_at 1 index)))) (IsBlockRef record_size)
-    by_passed None is = tt
-    by_passed (Some bytes) is = block_entry_fits held record_size (slot_of 1 index) node bytes fair (omega arith) is
+        → P (or_hole (option_map_or (λ bytes. Ok (block_at (entry_at 1 bytes (slot_of 1 index)))) p (Err (fails_at 1 index))))
+    by_passed None is = none
+    by_passed (Some bytes) is = each (slot_of 1 index) node bytes (omega arith) is
+
+pub old_block_any : (held : List (List ℕ)) (record_size : ℕ) (run : Run) (index : ℕ) (P : Option BlockRef → Type 0) → P None → 1 ≤ run.levels
+    → ((s : ℕ) (node : NodeRef) (bytes : List ℕ) → s < 32 → passed held record_size 1 node ≡ Some bytes → P (block_at (entry_at 1 bytes s)))
+    → P ((old_of held record_size run).block index)
+unfolding old_of
+old_block_any held record_size run index P none some each =
+    rw (walk_by_place held record_size run 0 index some)
+    (last_any held record_size index P (found_at held record_size run 1 (place_of 1 index)) none each)
 
 pub old_block_fits : (held : List (List ℕ)) (record_size : ℕ) (run : Run) (index : ℕ) → HoldsBytes held → 1 ≤ run.levels
     → IfSome ((old_of held record_size run).block index) (IsBlockRef record_size)
-unfolding old_of
 old_block_fits held record_size run index fair some =
-    rw (walk_by_place held record_size run 0 index some)
-    (last_fits held record_size index (found_at held record_size run 1 (place_of 1 index)) fair)
+    old_block_any held record_size run index (λ o. IfSome o (IsBlockRef record_size)) tt some
+    (λ s node bytes within is. block_entry_fits held record_size s node bytes fair within is)

@@ -11,9 +11,19 @@ use Rattle.indirect_macs.specs.Walk.{walk}
 use Rattle.indirect_macs.specs.Places.{Place, place_at}
 use Rattle.indirect_macs.specs.Runs.{Run, old_of, puts_of, tree_of, levels_for, last_block}
 
+-- each is a byte
+abbrev pub AreBytes : List ℕ → Type 0
+AreBytes bytes = (i : ℕ) → slice_index bytes i < 256
+
+-- the fields of a reference to a block are bytes
+pub record HasBytes (r : BlockRef) : Type 0 where
+  pub salt : AreBytes r.salt
+  pub iv : AreBytes r.iv
+  pub mac : AreBytes r.mac
+
 -- each held block is of bytes
 abbrev pub HoldsBytes : List (List ℕ) → Type 0
-HoldsBytes held = (address : ℕ) (block : List ℕ) → slice_get held address ≡ Some block → (i : ℕ) → slice_index block i < 256
+HoldsBytes held = (address : ℕ) (block : List ℕ) → slice_get held address ≡ Some block → AreBytes block
 
 -- the walk to each block of the tree passes, and gives the reference at its place of the list, or a hole behind the list
 abbrev pub LeadsTo : (held : List (List ℕ)) → (record_size below : ℕ) → Option NodeRef → List (Option BlockRef) → Type 0

@@ -1,9 +1,9 @@
 // Laws of trees and of the run. The functions do nothing.
-ghost use Rattle.std.specs.Prelude.{◌≡◌, ◌+◌, ◌-◌, ◌/◌, ◌<◌, ◌≤◌, ◌++◌, ℕ, List, Option, None, Ok, length, replicate, slice_index_or};
+ghost use Rattle.std.specs.Prelude.{◌≡◌, ◌+◌, ◌-◌, ◌/◌, ◌<◌, ◌≤◌, ◌++◌, ℕ, List, Option, None, Ok, All, IfSome, length, replicate, slice_index_or};
 ghost use Rattle.std.specs.Option.{option_map};
 ghost use Rattle.indirect_macs.specs.Fold.{fold_mac};
 ghost use Rattle.indirect_macs.specs.Runs.{Old, Passes, Run, levels_for, most_puts, most_reads, puts_of, walk_to};
-ghost use Rattle.indirect_macs.specs.Trees.{HoldsBytes, IsRunOn, IsTree, LosesAll, held_after, tree_after, tree_before, walk_after, with_run};
+ghost use Rattle.indirect_macs.specs.Trees.{AreBytes, HasBytes, HoldsBytes, IsRunOn, IsTree, LosesAll, held_after, tree_after, tree_before, walk_after, with_run};
 ghost use Rattle.indirect_macs.specs.Walk.{walk};
 ghost use Rattle.indirect_macs.specs.declared.refs.BlockRef.{BlockRef};
 ghost use Rattle.indirect_macs.specs.declared.refs.NodeRef.{NodeRef};
@@ -28,6 +28,18 @@ pub fn runs_keep_trees()
     ensures kept { (held : List (List ℕ)) (record_size : ℕ) (run : Run) (refs : List (Option BlockRef))
         → IsRunOn held record_size run → IsTree held record_size (tree_before run) refs → LosesAll run refs
         → IsTree (held_after held record_size run) record_size (tree_after held record_size run) (with_run run refs) }
+{}
+
+/// A shelf of bytes stays one where the run's references are of bytes, and then the top of the new
+/// tree has the MAC of the references with the run put in.
+pub fn runs_keep_bytes()
+    ensures bytes { (held : List (List ℕ)) (record_size : ℕ) (run : Run) → IsRunOn held record_size run
+        → All (λ entry. IfSome entry HasBytes) run.refs → IfSome run.top (λ node. AreBytes node.mac)
+        → HoldsBytes (held_after held record_size run) }
+    ensures folds { (held : List (List ℕ)) (record_size : ℕ) (run : Run) (refs : List (Option BlockRef))
+        → IsRunOn held record_size run → All (λ entry. IfSome entry HasBytes) run.refs
+        → IfSome run.top (λ node. AreBytes node.mac) → IsTree held record_size (tree_before run) refs → LosesAll run refs
+        → option_map (λ node. node.mac) (tree_after held record_size run).top ≡ fold_mac (with_run run refs) }
 {}
 
 /// A run of `n` references reads at most `n / 31 + 9` nodes, and puts as many at most where the tree
