@@ -1,10 +1,9 @@
 -- What is put for a run is bytes, where its references are.
-use Rattle.std.proofs.Common.{◌≡◌, ℕ, zero, suc, ◌+◌, ◌-◌, ◌*◌, ◌/◌, ◌%◌, ◌^◌, ◌<◌, ◌≤◌, Bool, true, false, ◌||◌, ◌&&◌, ◌==◌, nat_lt, nat_le, List, [], ◌∷◌, ◌++◌, length, map, take, drop, replicate, get_or, slice_index, refl, sym, ap, subst, ◌∙◌, inl, inr, arith, Option, Some, None, is_some, if◌then◌else◌}
+use Rattle.std.proofs.Common.{◌≡◌, ℕ, zero, suc, ◌+◌, ◌-◌, ◌*◌, ◌<◌, ◌≤◌, Bool, true, false, ◌&&◌, ◌==◌, nat_lt, nat_le, List, [], ◌∷◌, ◌++◌, length, take, drop, replicate, get_or, slice_index, refl, sym, subst, arith, Option, Some, None, if◌then◌else◌}
 use Rattle.std.specs.Prelude.{All, IfSome}
-use Rattle.std.specs.List.{flat_map, slice_get}
+use Rattle.std.specs.List.{flat_map}
 use Rattle.std.specs.Int.{w64, to_be_bytes, bytes_high_first, byte_at}
 use Rattle.sha2.specs.Sha512.{sha512, digest_bytes}
-use Rattle.std.proofs.lemmas.Bool.{cases_lt}
 use Rattle.std.proofs.lemmas.List.{get_or-replicate}
 use Rattle.std.proofs.lemmas.List.Elements.{All-head, All-tail}
 use Rattle.byte_fields.specs.LittleEndian.{little_endian_bytes}
@@ -12,7 +11,7 @@ use Rattle.byte_fields.proofs.FieldLaws.{little_endian_bytes-lt}
 use Rattle.indirect_macs.specs.declared.refs.BlockRef.{BlockRef}
 use Rattle.indirect_macs.specs.declared.refs.NodeRef.{NodeRef}
 use Rattle.indirect_macs.specs.Entries.{block_at, node_at, block_entry, node_entry}
-use Rattle.indirect_macs.specs.Nodes.{entry_at, block_node, ref_node, mac_of}
+use Rattle.indirect_macs.specs.Nodes.{entry_at, mac_of}
 use Rattle.indirect_macs.specs.Walk.{passed}
 use Rattle.indirect_macs.specs.Trees.{AreBytes, HasBytes, HoldsBytes, IsRunOn, IsTree, LosesAll, held_after, tree_after, tree_before, with_run}
 use Rattle.indirect_macs.specs.Fold.{fold_mac}

@@ -1,28 +1,28 @@
 -- The entries of each touched node of the new tree.
-use Rattle.std.proofs.Common.{◌≡◌, ℕ, zero, suc, ◌+◌, ◌-◌, ◌*◌, ◌/◌, ◌%◌, ◌^◌, ◌<◌, ◌≤◌, Bool, true, false, ◌||◌, ◌&&◌, ◌==◌, nat_lt, nat_le, List, [], ◌∷◌, ◌++◌, length, map, replicate, get_or, take, drop, slice_index, refl, sym, ap, subst, ◌∙◌, ◌⊎◌, inl, inr, arith, Option, Some, None, is_some, is_none, Result, Ok, Err, if◌then◌else◌}
+use Rattle.std.proofs.Common.{◌≡◌, ℕ, zero, suc, ◌+◌, ◌-◌, ◌*◌, ◌^◌, ◌<◌, ◌≤◌, Bool, true, false, ◌&&◌, ◌==◌, nat_lt, nat_le, List, [], ◌∷◌, ◌++◌, length, replicate, get_or, refl, sym, ap, subst, ◌∙◌, ◌⊎◌, inl, inr, arith, Option, Some, None, is_none, Result, Ok, if◌then◌else◌}
 use Rattle.std.specs.Prelude.{All, IfSome}
-use Rattle.std.specs.List.{list_all, range_with_len}
+use Rattle.std.specs.List.{list_all}
 use Rattle.std.specs.Option.{option_eq}
 use Rattle.std.specs.Str.{bytes_eq}
 use Rattle.std.specs.Cmp.Lexicographic.{pointwise}
 use Rattle.std.proofs.lemmas.Bool.{cases_lt, ne_eqb, eqb-true}
 use Rattle.std.proofs.lemmas.List.{get_or-replicate}
-use Rattle.std.proofs.lemmas.List.FromFn.{get_or-map-range_with_len, length-map-range_with_len}
+use Rattle.std.proofs.lemmas.List.FromFn.{get_or-map-range_with_len}
 use Rattle.indirect_macs.specs.declared.refs.BlockRef.{BlockRef}
 use Rattle.indirect_macs.specs.declared.refs.NodeRef.{NodeRef}
 use Rattle.indirect_macs.specs.declared.refs.MacError.{MacError}
-use Rattle.indirect_macs.specs.Entries.{block_at, node_at, block_under_mac, node_under_mac, IsBlockRef, IsNodeRef}
-use Rattle.indirect_macs.specs.Nodes.{slots, entry_at, blocks_of, refs_of, mac_of}
-use Rattle.indirect_macs.specs.Walk.{passed, walk}
-use Rattle.indirect_macs.specs.Trees.{HoldsBytes, IsRunOn, is_empty_node}
-use Rattle.indirect_macs.specs.Runs.{Run, Old, Made, Node, first_at, last_at, count_at, levels_for, found_at, walk_to, or_hole, old_of, target, new_ref, entries_at, same_block, same_node, leaf_of, inner_of, new_node, kept, levels_made, puts_of, Passes}
+use Rattle.indirect_macs.specs.Entries.{block_at, node_at, IsBlockRef, IsNodeRef}
+use Rattle.indirect_macs.specs.Nodes.{slots, entry_at, blocks_of, refs_of}
+use Rattle.indirect_macs.specs.Walk.{passed}
+use Rattle.indirect_macs.specs.Trees.{IsRunOn}
+use Rattle.indirect_macs.specs.Runs.{Run, Old, Made, Node, first_at, last_at, count_at, levels_for, found_at, or_hole, old_of, target, new_ref, entries_at, same_block, same_node, leaf_of, inner_of, new_node, kept, levels_made, puts_of, Passes}
 use Rattle.indirect_macs.proofs.Spelling.{and_both}
 use Rattle.indirect_macs.proofs.Growth.{passed-grown}
 use Rattle.indirect_macs.proofs.TreeFold.{map_same, entries_above, length-slots, block_holes, same_bytes}
 use Rattle.indirect_macs.proofs.RunFound.{found_above}
 use Rattle.indirect_macs.proofs.RunMade.{IsMade, node_is_made, raised_is_made, raised_same, raised_stays}
 use Rattle.indirect_macs.proofs.RunNodes.{HasEntries, Entries, leaf_entries, inner_entries, inner_holes, inner_slot, leaf_slot, made_fits, length-mac_of}
-use Rattle.indirect_macs.proofs.RunOld.{Found, touched_found, old_children, old_blocks, old_node_fits, old_block_fits}
+use Rattle.indirect_macs.proofs.RunOld.{touched_found, old_children, old_blocks, old_node_fits, old_block_fits}
 
 -- ---- tests of entries are equations
 
@@ -230,7 +230,7 @@ module _ (held : List (List ℕ)) (record_size : ℕ) (run : Run) (ready : IsRun
       let last : last_at run (suc low) ≡ last_at run level = ap (last_at run) (sym is) in
       let node = node_is_made run old (length held) low (levels_for run.blocks) (j - first_at run level) enough (omega (arith, from, to, first, last)) in
       let there = subst (λ (l : ℕ). IsMade (length held) final (new_node run old l (made low) (first_at run l + (j - first_at run level)))
-          (kept run old l (made low) (first_at run l + (j - first_at run level))) (get_or (made l).refs (j - first_at run level) None)) (sym is) node in
+      (kept run old l (made low) (first_at run l + (j - first_at run level))) (get_or (made l).refs (j - first_at run level) None)) (sym is) node in
       subst (λ (index : ℕ). IsMade (length held) final (new_node run old level (made low) index) (kept run old level (made low) index) (get_or (made level).refs (j - first_at run level) None)) at there
 
   touched_fits : (low level j : ℕ) → level ≡ suc low → level ≤ levels_for run.blocks → first_at run level ≤ j → j ≤ last_at run level

@@ -1,10 +1,9 @@
 -- The new tree has no empty node where the old one has none.
-use Rattle.std.proofs.Common.{◌≡◌, ℕ, zero, suc, ◌+◌, ◌-◌, ◌*◌, ◌/◌, ◌%◌, ◌^◌, ◌<◌, ◌≤◌, Bool, true, false, ◌||◌, ◌&&◌, ◌==◌, nat_lt, nat_le, List, [], ◌∷◌, ◌++◌, length, map, replicate, get_or, refl, sym, ap, subst, ◌∙◌, ◌⊎◌, inl, inr, arith, Option, Some, None, Result, Ok, Err, IsOk, if◌then◌else◌}
+use Rattle.std.proofs.Common.{◌≡◌, ℕ, zero, suc, ◌+◌, ◌-◌, ◌*◌, ◌/◌, ◌%◌, ◌^◌, ◌<◌, ◌≤◌, Bool, true, false, ◌==◌, nat_lt, List, ◌∷◌, ◌++◌, length, replicate, get_or, refl, sym, ap, subst, ◌∙◌, inl, inr, arith, Option, Some, None, Result, Ok, Err, if◌then◌else◌}
 use Rattle.std.specs.List.{slice_get}
 use Rattle.std.specs.Option.{option_map_or}
-use Rattle.std.proofs.lemmas.Bool.{cases_lt, ne_eqb, eqb-true}
+use Rattle.std.proofs.lemmas.Bool.{cases_lt, eqb-true}
 use Rattle.std.proofs.lemmas.List.{get_or-replicate}
-use Rattle.std.proofs.Math.Nat.{pow-suc, div-eq_of_lt}
 use Rattle.indirect_macs.specs.declared.refs.BlockRef.{BlockRef}
 use Rattle.indirect_macs.specs.declared.refs.NodeRef.{NodeRef}
 use Rattle.indirect_macs.specs.declared.refs.MacError.{MacError}
@@ -14,13 +13,13 @@ use Rattle.indirect_macs.specs.Nodes.{entry_at}
 use Rattle.indirect_macs.specs.Walk.{place_of, slot_of, passed, walk, goes_on}
 use Rattle.indirect_macs.specs.Places.{Place, place_at}
 use Rattle.indirect_macs.specs.Trees.{IsRunOn, is_empty_node}
-use Rattle.indirect_macs.specs.Runs.{Run, Old, Made, first_block, first_at, last_at, levels_for, child_of, found_at, walk_to, or_hole, old_of, new_ref, levels_made, puts_of, tree_of, Passes}
+use Rattle.indirect_macs.specs.Runs.{Run, Old, Made, first_block, first_at, last_at, levels_for, child_of, found_at, walk_to, or_hole, old_of, new_ref, levels_made, Passes}
 use Rattle.indirect_macs.proofs.Growth.{passed-grown}
 use Rattle.indirect_macs.proofs.FirstPlace.{passed_held, no_place}
-use Rattle.indirect_macs.proofs.TreeFold.{child_place, walk_none, walk_through, walked_top, place_through, slot_above, place_above, first_under, goes_ok}
+use Rattle.indirect_macs.proofs.TreeFold.{child_place, walk_through, walked_top, place_through, slot_above, place_above, first_under, goes_ok}
 use Rattle.indirect_macs.proofs.RunFound.{walk_by_place, found_child, found_top}
 use Rattle.indirect_macs.proofs.RunMade.{raised_stays}
-use Rattle.indirect_macs.proofs.RunNodes.{HasEntries, Entries}
+use Rattle.indirect_macs.proofs.RunNodes.{Entries}
 use Rattle.indirect_macs.proofs.RunEntries.{new_ref_cases, touched_leaf, touched_inner, raised_entries}
 use Rattle.indirect_macs.proofs.RunLeads.{Outside, from_parts}
 
@@ -93,9 +92,11 @@ walks_child : (held : List (List ℕ)) (record_size low j s : ℕ) (node : NodeR
     → Walks held record_size (suc low) j (Some node) → Walks held record_size low (32 * j + s) (node_at (entry_at (low + 2) bytes s))
 unfolding Walks
 walks_child held record_size low j s node bytes within passes walks index at =
-    let found = walks index (place_above low index j s within at) in
-    (found.0, ap (λ (slot : ℕ). walk held record_size index low (node_at (entry_at (low + 2) bytes slot))) (sym (slot_above low index j s within at))
-    ∙ sym (walk_through held record_size index low node bytes passes) ∙ found.1)
+    let found = walks index (place_above low index j s within at) in (
+      found.0,
+      ap (λ (slot : ℕ). walk held record_size index low (node_at (entry_at (low + 2) bytes slot))) (sym (slot_above low index j s within at))
+          ∙ sym (walk_through held record_size index low node bytes passes) ∙ found.1,
+    )
 
 -- a longer shelf keeps this
 pub filled_grown : (held more : List (List ℕ)) (record_size below j : ℕ) (top : Option NodeRef) → Walks held record_size below j top → Filled held below j top
@@ -185,10 +186,11 @@ module _ (held : List (List ℕ)) (record_size : ℕ) (run : Run) (ready : IsRun
       filled_grown held (made (levels_for run.blocks)).puts record_size low j (or_hole (found_at held record_size run (low + 1) j))
       (λ index at.
       let went = goes_ok (λ next. walk held record_size index low next) (found_at held record_size run (low + 1) (place_of (low + 1) index)) (known index).0
-          (sym (walk_by_place held record_size run low index within) ∙ (known index).1) in
-      ((known index).0,
-      ap (λ (r : Result (Option NodeRef) MacError). walk held record_size index low (or_hole r))
-      (ap (found_at held record_size run (low + 1)) (sym at) ∙ went.1) ∙ went.2))
+      (sym (walk_by_place held record_size run low index within) ∙ (known index).1) in (
+        (known index).0,
+        ap (λ (r : Result (Option NodeRef) MacError). walk held record_size index low (or_hole r))
+            (ap (found_at held record_size run (low + 1)) (sym at) ∙ went.1) ∙ went.2,
+      ))
       (found_filled held record_size run (run.levels - (low + 1)) low j (omega (arith, within)) filled)
 
   top_stays : (low : ℕ) → run.levels ≡ low + 1 → Filled after low 0 (made (low + 1)).raised

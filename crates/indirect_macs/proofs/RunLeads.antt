@@ -1,15 +1,14 @@
 -- Where the new tree leads.
-use Rattle.std.proofs.Common.{◌≡◌, ℕ, zero, suc, ◌+◌, ◌-◌, ◌*◌, ◌/◌, ◌%◌, ◌^◌, ◌<◌, ◌≤◌, Bool, true, false, ◌||◌, ◌&&◌, ◌==◌, nat_lt, nat_le, List, [], ◌∷◌, ◌++◌, length, replicate, get_or, refl, sym, ap, subst, ◌∙◌, ◌⊎◌, inl, inr, arith, Option, Some, None, Result, Ok, Err, if◌then◌else◌}
-use Rattle.std.proofs.lemmas.Bool.{cases_lt, ne_eqb, eqb-true}
+use Rattle.std.proofs.Common.{◌≡◌, ℕ, zero, suc, ◌+◌, ◌-◌, ◌*◌, ◌/◌, ◌%◌, ◌^◌, ◌<◌, ◌≤◌, Bool, true, false, ◌&&◌, ◌==◌, nat_lt, nat_le, List, ◌∷◌, ◌++◌, length, replicate, get_or, refl, sym, ap, subst, ◌∙◌, ◌⊎◌, inl, inr, arith, Option, Some, None, Result, Ok}
+use Rattle.std.proofs.lemmas.Bool.{cases_lt, ne_eqb}
 use Rattle.std.proofs.lemmas.List.{get_or-replicate}
-use Rattle.std.proofs.lemmas.Nat.{le-div, div_below, div-add-mod', mod_below}
+use Rattle.std.proofs.lemmas.Nat.{le-div, div_below}
 use Rattle.std.proofs.Math.Nat.{pow-suc, div-mul-le_self, div-eq_of_lt, mul-le-mul_right}
 use Rattle.indirect_macs.specs.declared.refs.BlockRef.{BlockRef}
 use Rattle.indirect_macs.specs.declared.refs.NodeRef.{NodeRef}
 use Rattle.indirect_macs.specs.declared.refs.MacError.{MacError}
 use Rattle.indirect_macs.specs.Entries.{block_at, node_at}
-use Rattle.indirect_macs.specs.Nodes.{entry_at}
-use Rattle.indirect_macs.specs.Walk.{place_of, slot_of, walk, goes_on}
+use Rattle.indirect_macs.specs.Walk.{place_of, slot_of, walk}
 use Rattle.indirect_macs.specs.Trees.{IsRunOn, walk_after}
 use Rattle.indirect_macs.specs.Runs.{Run, Old, Made, first_block, last_block, first_at, last_at, levels_for, found_at, walk_to, or_hole, old_of, target, new_ref, levels_made, puts_of, tree_of, Passes}
 use Rattle.indirect_macs.proofs.Growth.{walk-grown}
@@ -17,8 +16,8 @@ use Rattle.indirect_macs.proofs.FoldOfTree.{power_least, power_mono}
 use Rattle.indirect_macs.proofs.TreeFold.{child_place, walk_none, walk_through, walk_last, first_place, goes_ok, ok_same}
 use Rattle.indirect_macs.proofs.RunFound.{walk_by_place}
 use Rattle.indirect_macs.proofs.RunMade.{raised_stays}
-use Rattle.indirect_macs.proofs.RunNodes.{HasEntries, Entries}
-use Rattle.indirect_macs.proofs.RunOld.{in_order, shift}
+use Rattle.indirect_macs.proofs.RunNodes.{Entries}
+use Rattle.indirect_macs.proofs.RunOld.{in_order}
 use Rattle.indirect_macs.proofs.RunEntries.{puts_are, new_ref_cases, new_ref_touched, touched_leaf, touched_inner, raised_entries, levels_some}
 
 -- ---- the walk through entries
@@ -249,7 +248,7 @@ module _ (held : List (List ℕ)) (record_size : ℕ) (run : Run) (ready : IsRun
       (λ _ above later. walk_none (held ++ final) record_size index low ∙ ap as_found (sym (nothing above later)))
       (λ _ inside within.
       let went = goes_ok (λ next. walk held record_size index low next) (found_at held record_size run (low + 1) (place_of (low + 1) index)) x
-          (sym (walk_by_place held record_size run low index within) ∙ is) in
+      (sym (walk_by_place held record_size run low index within) ∙ is) in
       ap (λ (r : Result (Option NodeRef) MacError). walk (held ++ final) record_size index low (or_hole r)) went.1
       ∙ walk-grown held final record_size index low went.0 x went.2 ∙ ap as_found (old_stays (low + 1) index x out inside is cut))
     where
@@ -384,7 +383,7 @@ tree_leads held record_size run index ready passes some small known cut =
     let found = new_leads held record_size run ready some passes (levels_for run.blocks - 1) index (omega (arith, levels)) known cut in
     let first : place_of (levels_for run.blocks) index ≡ 0 = div-eq_of_lt small in
     let there = subst (λ (l : ℕ). walk (held ++ (levels_made run (old_of held record_size run) (length held) (levels_for run.blocks)).puts) record_size index (levels_for run.blocks - 1)
-        (new_ref run (old_of held record_size run) l (levels_made run (old_of held record_size run) (length held) l) (place_of l index)) ≡ Ok (target run (old_of held record_size run) index)) levels found in
+    (new_ref run (old_of held record_size run) l (levels_made run (old_of held record_size run) (length held) l) (place_of l index)) ≡ Ok (target run (old_of held record_size run) index)) levels found in
     rw (puts_are held record_size run ready some, top_is_new held record_size run ready some, ← first) there
 
 -- ---- the laws

@@ -1,6 +1,5 @@
 -- What was made of each level: its references, and where what they name is put.
-use Rattle.std.proofs.Common.{◌≡◌, ℕ, zero, suc, ◌+◌, ◌-◌, ◌<◌, ◌≤◌, Bool, true, false, ◌&&◌, ◌||◌, nat_lt, List, [], ◌∷◌, ◌++◌, length, replicate, get_or, refl, sym, ap, subst, ◌∙◌, inl, inr, arith, length-append, Option, Some, None, is_some, if◌then◌else◌}
-use Rattle.std.specs.List.{slice_get}
+use Rattle.std.proofs.Common.{◌≡◌, ℕ, zero, suc, ◌+◌, ◌-◌, ◌<◌, ◌≤◌, Bool, true, false, ◌&&◌, nat_lt, List, [], ◌∷◌, ◌++◌, length, replicate, get_or, refl, sym, ap, ◌∙◌, inl, inr, arith, length-append, Option, None, if◌then◌else◌}
 use Rattle.std.proofs.lemmas.Bool.{cases_lt}
 use Rattle.std.proofs.lemmas.List.{append_assoc, append-nil, get_or-append_right}
 use Rattle.indirect_macs.specs.declared.refs.NodeRef.{NodeRef}
@@ -24,14 +23,14 @@ pub record IsMade (base : ℕ) (final : List (List ℕ)) (node : Node) (stays r 
   pub is : r ≡ ref_with (base + length front) node stays
   pub put : IsFront (puts_with node stays front) final
 
-with_more : (node : Node) (stays : Option NodeRef) (front : List (List ℕ)) → IsFront front (puts_with node stays front)
+pub with_more : (node : Node) (stays : Option NodeRef) (front : List (List ℕ)) → IsFront front (puts_with node stays front)
 with_more node stays front = by_put (is_put node stays)
   where
     by_put : (b : Bool) → IsFront front (if b then front ++ node.bytes ∷ [] else front)
     by_put true = record { more = node.bytes ∷ []; is = refl }
     by_put false = whole_front front
 
-begun_front : (run : Run) (base level : ℕ) (below : Made) → IsFront below.puts (begun run base level below).puts
+pub begun_front : (run : Run) (base level : ℕ) (below : Made) → IsFront below.puts (begun run base level below).puts
 unfolding begun
 begun_front run base level below =
     by_raised (nat_lt run.levels level && nat_lt 0 (first_at run level)) _ (with_more (inner_of level (below.raised ∷ replicate 31 None)) None below.puts)
@@ -40,7 +39,7 @@ begun_front run base level below =
     by_raised true some front = front
     by_raised false some front = whole_front below.puts
 
-begun_refs : (run : Run) (base level : ℕ) (below : Made) → (begun run base level below).refs ≡ []
+pub begun_refs : (run : Run) (base level : ℕ) (below : Made) → (begun run base level below).refs ≡ []
 unfolding begun
 begun_refs run base level below = by_raised (nat_lt run.levels level && nat_lt 0 (first_at run level)) _ refl
   where
@@ -48,7 +47,7 @@ begun_refs run base level below = by_raised (nat_lt run.levels level && nat_lt 0
     by_raised true some none = none
     by_raised false some none = refl
 
-nodes_front : (run : Run) (old : Old) (base level : ℕ) (below : Made) (i n : ℕ) → i ≤ n
+pub nodes_front : (run : Run) (old : Old) (base level : ℕ) (below : Made) (i n : ℕ) → i ≤ n
     → IsFront (nodes_made run old base level below i).puts (nodes_made run old base level below n).puts
 unfolding nodes_made
 nodes_front run old base level below i zero few =
@@ -69,9 +68,12 @@ pub length-nodes_made : (run : Run) (old : Old) (base level : ℕ) (below : Made
 unfolding nodes_made
 length-nodes_made run old base level below zero = ap length (begun_refs run base level below)
 length-nodes_made run old base level below (suc n) =
-    omega (arith, length-nodes_made run old base level below n,
-    length-append (nodes_made run old base level below n).refs
-    (ref_with (base + length (nodes_made run old base level below n).puts) (new_node run old level below (first_at run level + n)) (kept run old level below (first_at run level + n)) ∷ []))
+    omega (
+      arith,
+      length-nodes_made run old base level below n,
+      length-append (nodes_made run old base level below n).refs
+          (ref_with (base + length (nodes_made run old base level below n).puts) (new_node run old level below (first_at run level + n)) (kept run old level below (first_at run level + n)) ∷ []),
+    )
 
 get_or-front : {X : Type 0} (xs ys : List X) (i : ℕ) (d : X) → i < length xs → get_or (xs ++ ys) i d ≡ get_or xs i d
 get_or-front [] ys i d within = absurd (omega (arith, within))
@@ -99,7 +101,7 @@ nodes_ref run old base level below i (suc n) few =
           ∙ ap (λ (k : ℕ). ref_with (base + length (nodes_made run old base level below k).puts) (new_node run old level below (first_at run level + k)) (kept run old level below (first_at run level + k))) same
     ]
 
-nodes_raised : (run : Run) (old : Old) (base level : ℕ) (below : Made) (n : ℕ) → (nodes_made run old base level below n).raised ≡ (begun run base level below).raised
+pub nodes_raised : (run : Run) (old : Old) (base level : ℕ) (below : Made) (n : ℕ) → (nodes_made run old base level below n).raised ≡ (begun run base level below).raised
 unfolding nodes_made
 nodes_raised run old base level below zero = refl
 nodes_raised run old base level below (suc n) = nodes_raised run old base level below n
@@ -124,7 +126,7 @@ levels_front run old base low (suc high) few =
           rw same (whole_front (levels_made run old base (suc high)).puts)
     ]
 
-put_front : (run : Run) (old : Old) (base level : ℕ) (below : Made) (i n : ℕ) → i < n
+pub put_front : (run : Run) (old : Old) (base level : ℕ) (below : Made) (i n : ℕ) → i < n
     → IsFront (puts_with (new_node run old level below (first_at run level + i)) (kept run old level below (first_at run level + i)) (nodes_made run old base level below i).puts)
     (nodes_made run old base level below n).puts
 unfolding nodes_made

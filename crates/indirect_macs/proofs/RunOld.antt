@@ -1,12 +1,12 @@
 -- The old tree below a run: its touched nodes pass, and its references fit.
-use Rattle.std.proofs.Common.{◌≡◌, ℕ, zero, suc, ◌+◌, ◌-◌, ◌*◌, ◌/◌, ◌%◌, ◌^◌, ◌<◌, ◌≤◌, Bool, true, false, ◌||◌, ◌&&◌, ◌==◌, nat_lt, List, length, take, drop, slice_index, refl, sym, ap, subst, ◌∙◌, inl, inr, arith, length-take-le, length-drop, Option, Some, None, Result, Ok, Err, IsOk, if◌then◌else◌}
-use Rattle.std.specs.Prelude.{IfSome, IsTrue}
+use Rattle.std.proofs.Common.{◌≡◌, ℕ, zero, suc, ◌+◌, ◌-◌, ◌*◌, ◌/◌, ◌%◌, ◌^◌, ◌<◌, ◌≤◌, Bool, true, false, ◌==◌, nat_lt, List, length, take, drop, slice_index, refl, sym, ap, subst, ◌∙◌, inl, inr, arith, length-take-le, length-drop, Option, Some, None, Result, Ok, Err, IsOk, if◌then◌else◌}
+use Rattle.std.specs.Prelude.{IfSome}
 use Rattle.std.specs.List.{list_all}
 use Rattle.std.specs.Option.{option_map_or}
 use Rattle.std.proofs.lemmas.Bool.{cases_lt, ne_eqb}
 use Rattle.std.proofs.lemmas.List.Folds.{list_all_at}
-use Rattle.std.proofs.Math.Nat.{pow-suc, div-div-eq-div-mul, mul-div_cancel_left, mul-div_cancel, div-mul-le_self, mul-le-mul_right}
-use Rattle.std.proofs.lemmas.Nat.{div-mul-add, mod-mul-add, div_below, le-div}
+use Rattle.std.proofs.Math.Nat.{pow-suc, div-div-eq-div-mul, mul-div_cancel, div-mul-le_self, mul-le-mul_right}
+use Rattle.std.proofs.lemmas.Nat.{div-mul-add, mod-mul-add, le-div}
 use Rattle.byte_fields.specs.LittleEndian.{little_endian_value}
 use Rattle.byte_fields.proofs.FieldLaws.{little_endian_value-lt}
 use Rattle.indirect_macs.specs.declared.refs.BlockRef.{BlockRef}
@@ -14,14 +14,14 @@ use Rattle.indirect_macs.specs.declared.refs.NodeRef.{NodeRef}
 use Rattle.indirect_macs.specs.declared.refs.MacError.{MacError}
 use Rattle.indirect_macs.specs.declared.refs.MacError.TheVariants.{MacFailed}
 use Rattle.indirect_macs.specs.Entries.{block_at, node_at, is_entry, is_size, IsBlockRef, IsNodeRef}
-use Rattle.indirect_macs.specs.Nodes.{slots, node_len, entry_at, has_entries}
+use Rattle.indirect_macs.specs.Nodes.{slots, entry_at, has_entries}
 use Rattle.indirect_macs.specs.Walk.{place_of, slot_of, passed, walk, goes_on, next_block, fails_at}
 use Rattle.indirect_macs.specs.Trees.{HoldsBytes}
-use Rattle.indirect_macs.specs.Runs.{Run, Old, first_block, last_block, first_at, last_at, IsTouched, child_of, found_below, found_at, walk_to, or_hole, old_of, Passes}
-use Rattle.indirect_macs.proofs.Spelling.{and_both, each_passed, bytes_of_part, part_of, entries_alike}
+use Rattle.indirect_macs.specs.Runs.{Run, first_block, last_block, first_at, last_at, IsTouched, child_of, found_below, found_at, walk_to, or_hole, old_of, Passes}
+use Rattle.indirect_macs.proofs.Spelling.{and_both, each_passed, bytes_of_part, part_of}
 use Rattle.indirect_macs.proofs.FoldOfTree.{power_least}
-use Rattle.indirect_macs.proofs.TreeFold.{passes_from, entries_above, above_one, walked_top, walk_last, walk_none, ok_passed, goes_ok, lowest_slot, lowest_place}
-use Rattle.indirect_macs.proofs.RunFound.{walk_by_place, found_within, found_child, found_top, found_above}
+use Rattle.indirect_macs.proofs.TreeFold.{passes_from, walked_top, walk_last, goes_ok, lowest_slot, lowest_place}
+use Rattle.indirect_macs.proofs.RunFound.{walk_by_place, found_within, found_child, found_above}
 
 -- ---- touched places
 
@@ -164,12 +164,12 @@ tagged_block record_size e whole fair entry = by_tag (slice_index e 0 == 0) refl
 
     by_tag : (b : Bool) → (slice_index e 0 == 0) ≡ b
         → IfSome (if b then None else Some (record {
-        size = little_endian_value (take 4 (drop 1 e));
-        addr = little_endian_value (take 8 (drop 5 e));
-        salt = take 8 (drop 13 e);
-        iv = take 12 (drop 21 e);
-        mac = take 16 (drop 33 e);
-    })) (IsBlockRef record_size)
+          size = little_endian_value (take 4 (drop 1 e));
+          addr = little_endian_value (take 8 (drop 5 e));
+          salt = take 8 (drop 13 e);
+          iv = take 12 (drop 21 e);
+          mac = take 16 (drop 33 e);
+        })) (IsBlockRef record_size)
     by_tag true is = tt
     by_tag false is =
         let four : length (take 4 (drop 1 e)) ≡ 4 = length-take-le 4 (drop 1 e) (omega (arith, whole, length-drop 1 e)) in

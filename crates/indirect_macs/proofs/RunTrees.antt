@@ -1,8 +1,8 @@
 -- Trees in their one spelling.
-use Rattle.std.proofs.Common.{◌≡◌, ℕ, zero, suc, ◌+◌, ◌-◌, ◌*◌, ◌/◌, ◌^◌, ◌<◌, ◌≤◌, Bool, true, false, ◌&&◌, ◌==◌, nat_lt, nat_le, List, [], ◌++◌, length, map, replicate, get_or, refl, sym, ap, subst, ◌∙◌, ◌⊎◌, inl, inr, arith, Option, Some, None, Result, Ok, Err, IsOk, if◌then◌else◌}
-use Rattle.std.specs.List.{range_with_len, slice_get}
+use Rattle.std.proofs.Common.{◌≡◌, ℕ, suc, ◌+◌, ◌-◌, ◌*◌, ◌^◌, ◌<◌, ◌≤◌, true, false, ◌&&◌, ◌==◌, nat_lt, nat_le, List, [], ◌++◌, length, map, replicate, get_or, refl, sym, ap, subst, ◌∙◌, inl, inr, arith, Option, None, Result, Ok, IsOk, if◌then◌else◌}
+use Rattle.std.specs.List.{range_with_len}
 use Rattle.std.specs.Option.{option_map}
-use Rattle.std.proofs.lemmas.Bool.{cases_lt, ne_eqb}
+use Rattle.std.proofs.lemmas.Bool.{cases_lt}
 use Rattle.std.proofs.lemmas.List.{get_or_past, length-replicate}
 use Rattle.std.proofs.lemmas.List.FromFn.{length-map-range_with_len, get_or-map-range_with_len}
 use Rattle.std.proofs.Math.Nat.{div-eq_of_lt}
@@ -10,17 +10,14 @@ use Rattle.indirect_macs.specs.declared.refs.BlockRef.{BlockRef}
 use Rattle.indirect_macs.specs.declared.refs.NodeRef.{NodeRef}
 use Rattle.indirect_macs.specs.declared.refs.ObjTree.{ObjTree}
 use Rattle.indirect_macs.specs.declared.refs.MacError.{MacError}
-use Rattle.indirect_macs.specs.Walk.{place_of, walk}
-use Rattle.indirect_macs.specs.Places.{Place, place_at}
 use Rattle.indirect_macs.specs.Fold.{fold_mac}
-use Rattle.indirect_macs.specs.Trees.{HoldsBytes, HasNoEmptyNodes, IsRunOn, IsTree, LosesAll, tree_before, tree_after, held_after, with_run, is_empty_node}
-use Rattle.indirect_macs.specs.Runs.{Run, Old, last_block, levels_for, walk_to, or_hole, old_of, target, new_ref, levels_made, puts_of, tree_of, Passes}
+use Rattle.indirect_macs.specs.Trees.{HoldsBytes, HasNoEmptyNodes, IsRunOn, IsTree, LosesAll, tree_before, tree_after, held_after, with_run}
+use Rattle.indirect_macs.specs.Runs.{Run, Old, levels_for, walk_to, old_of, target, new_ref, levels_made, tree_of, Passes}
 use Rattle.indirect_macs.proofs.Growth.{walk-grown}
-use Rattle.indirect_macs.proofs.FirstPlace.{no_place}
-use Rattle.indirect_macs.proofs.FoldOfTree.{padded, power_least}
+use Rattle.indirect_macs.proofs.FoldOfTree.{padded}
 use Rattle.indirect_macs.proofs.TreeFold.{walk_none, first_place, top_is_fold}
 use Rattle.indirect_macs.proofs.RunEntries.{levels_some, puts_are}
-use Rattle.indirect_macs.proofs.RunLeads.{levels_room, walk_inside, walk_beyond, tree_leads, top_is_new, IsKnown, IsCut}
+use Rattle.indirect_macs.proofs.RunLeads.{levels_room, walk_inside, walk_beyond, tree_leads, top_is_new, IsCut}
 use Rattle.indirect_macs.proofs.RunFilled.{Filled, Walks, filled_none, filled_grown, new_filled}
 
 -- ---- a tree's nodes, under its first place
@@ -142,11 +139,11 @@ some_tree held record_size run refs ready some is all =
     let passes = tree_passes held record_size run refs ready.levels is in
     let old : Old = old_of held record_size run in
     let nodes = new_filled held record_size run ready some passes (λ index. (get_or refs index None, tree_known held record_size run refs index ready.levels is))
-        (filled_of held (run.levels - 1) run.top is.filled) (levels_for run.blocks - 1) 0 (omega (arith, levels)) in
+    (filled_of held (run.levels - 1) run.top is.filled) (levels_for run.blocks - 1) 0 (omega (arith, levels)) in
     let top = subst (λ (l : ℕ). Filled (held ++ (levels_made run old (length held) (levels_for run.blocks)).puts) (levels_for run.blocks - 1) 0
-        (new_ref run old l (levels_made run old (length held) l) 0)) levels nodes in
+    (new_ref run old l (levels_made run old (length held) l) 0)) levels nodes in
     let put = subst (λ (puts : List (List ℕ)). Filled (held ++ puts) (levels_for run.blocks - 1) 0
-        (new_ref run old (levels_for run.blocks) (levels_made run old (length held) (levels_for run.blocks)) 0)) (sym (puts_are held record_size run ready some)) top in
+    (new_ref run old (levels_for run.blocks) (levels_made run old (length held) (levels_for run.blocks)) 0)) (sym (puts_are held record_size run ready some)) top in
     let there = subst (Filled (held_after held record_size run) (levels_for run.blocks - 1) 0) (sym (top_is_new held record_size run ready some)) put in
     record {
       levels = ap levels_for (sym (length-with_run run refs));

@@ -13,11 +13,11 @@ use Rattle.std.proofs.lemmas.Nat.{div-mul-add, mod-mul-add, mod_below, div-add-m
 use Rattle.indirect_macs.specs.declared.refs.BlockRef.{BlockRef}
 use Rattle.indirect_macs.specs.declared.refs.NodeRef.{NodeRef}
 use Rattle.indirect_macs.specs.declared.refs.MacError.{MacError}
-use Rattle.indirect_macs.specs.Entries.{block_at, node_at, block_under_mac, node_under_mac, is_entry, entry_len, without_address}
+use Rattle.indirect_macs.specs.Entries.{block_at, node_at, block_under_mac, node_under_mac, is_entry, without_address}
 use Rattle.indirect_macs.specs.Nodes.{slots, node_len, entry_at, node_mac, has_entries, node_passes, mac_of, blocks_of}
 use Rattle.indirect_macs.specs.Walk.{place_of, slot_of, passed, walk, next_block, next_node, fails_at, goes_on}
 use Rattle.indirect_macs.specs.Places.{Place, place_at, next_ref}
-use Rattle.indirect_macs.specs.Fold.{filled_up, group_mac, fold_mac}
+use Rattle.indirect_macs.specs.Fold.{group_mac, fold_mac}
 use Rattle.indirect_macs.specs.Trees.{HoldsBytes, LeadsTo, HasNoEmptyNodes, is_empty_node}
 use Rattle.indirect_macs.proofs.Spelling.{same_pieces, and_both, each_passed, bytes_of_part, part_of, block_entry-at, node_entry-at, block_without_address, node_without_address, entries_alike, macs_alike}
 use Rattle.indirect_macs.proofs.FirstPlace.{passed_held, no_place}
