@@ -18,3 +18,4 @@ pub mod RunLeads
 pub mod RunFilled
 pub mod RunTrees
 pub mod RunBytes
+pub mod RunUnchanged

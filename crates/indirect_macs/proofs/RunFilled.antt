@@ -68,7 +68,7 @@ filled_inner held record_size low j e (Some node) has each index (suc depth) pla
     (ap (λ (r : Option NodeRef). place_at held index low r depth) (sym (has.entries slot (omega arith)))
     ∙ sym (place_through held index low depth node has.bytes (passed_held held record_size (low + 2) node has.bytes has.passes)) ∙ is) there
 
-filled_child : (held : List (List ℕ)) (record_size low j s : ℕ) (node : NodeRef) (bytes : List ℕ) → s < 32 → passed held record_size (low + 2) node ≡ Some bytes
+pub filled_child : (held : List (List ℕ)) (record_size low j s : ℕ) (node : NodeRef) (bytes : List ℕ) → s < 32 → passed held record_size (low + 2) node ≡ Some bytes
     → Filled held (suc low) j (Some node) → Filled held low (32 * j + s) (node_at (entry_at (low + 2) bytes s))
 unfolding Filled
 filled_child held record_size low j s node bytes within passes filled index depth place node_bytes at is there =
@@ -76,7 +76,7 @@ filled_child held record_size low j s node bytes within passes filled index dept
     (place_through held index low depth node bytes (passed_held held record_size (low + 2) node bytes passes)
     ∙ ap (λ (slot : ℕ). place_at held index low (node_at (entry_at (low + 2) bytes slot)) depth) (slot_above low index j s within at) ∙ is) there
 
-node_filled : (held : List (List ℕ)) (below j : ℕ) (node : NodeRef) (bytes : List ℕ) → Filled held below j (Some node) → slice_get held node.addr ≡ Some bytes
+pub node_filled : (held : List (List ℕ)) (below j : ℕ) (node : NodeRef) (bytes : List ℕ) → Filled held below j (Some node) → slice_get held node.addr ≡ Some bytes
     → is_empty_node (below + 1) bytes ≡ false
 unfolding place_at Filled
 node_filled held zero j node bytes filled there =
@@ -145,7 +145,7 @@ filled_below held record_size low i (Ok (Some node)) filled = by_passed (passed 
         subst (λ (k : ℕ). Filled held low k (node_at (entry_at (low + 2) bytes (i % 32)))) parts
         (filled_child held record_size low (i / 32) (i % 32) node bytes (omega arith) is filled)
 
-found_filled : (held : List (List ℕ)) (record_size : ℕ) (run : Run) (depth low i : ℕ) → low + 1 + depth ≡ run.levels → Filled held (run.levels - 1) 0 run.top
+pub found_filled : (held : List (List ℕ)) (record_size : ℕ) (run : Run) (depth low i : ℕ) → low + 1 + depth ≡ run.levels → Filled held (run.levels - 1) 0 run.top
     → Filled held low i (or_hole (found_at held record_size run (low + 1) i))
 found_filled held record_size run zero low i is filled =
     let level : low + 1 ≡ run.levels = omega (arith, is) in

@@ -85,7 +85,7 @@ get_or-last xs x i d is =
     let none : i - length xs ≡ 0 = omega (arith, is) in
     get_or-append_right xs (x ∷ []) (length xs) i d refl (omega (arith, is)) ∙ ap (λ (k : ℕ). get_or (x ∷ []) k d) none
 
-nodes_ref : (run : Run) (old : Old) (base level : ℕ) (below : Made) (i n : ℕ) → i < n
+pub nodes_ref : (run : Run) (old : Old) (base level : ℕ) (below : Made) (i n : ℕ) → i < n
     → get_or (nodes_made run old base level below n).refs i None
     ≡ ref_with (base + length (nodes_made run old base level below i).puts) (new_node run old level below (first_at run level + i)) (kept run old level below (first_at run level + i))
 unfolding nodes_made

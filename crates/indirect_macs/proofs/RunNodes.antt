@@ -52,7 +52,7 @@ slice_get_put held front more final block is =
     ∙ ap (slice_get (held ++ front ++ block ∷ more)) (sym (length-append held front))
     ∙ slice_get_at (held ++ front) block more
 
-bytes_same : (xs ys : List ℕ) → xs ≡ ys → bytes_eq xs ys ≡ true
+pub bytes_same : (xs ys : List ℕ) → xs ≡ ys → bytes_eq xs ys ≡ true
 bytes_same xs ys is = grind (arith, is, bytes_eq-Decides xs ys)
 
 passed_put : (held front final : List (List ℕ)) (record_size level : ℕ) (block mac : List ℕ) → IsFront (front ++ block ∷ []) final

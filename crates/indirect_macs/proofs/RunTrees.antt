@@ -22,7 +22,7 @@ use Rattle.indirect_macs.proofs.RunFilled.{Filled, Walks, filled_none, filled_gr
 
 -- ---- a tree's nodes, under its first place
 
-filled_of : (held : List (List ℕ)) (below : ℕ) (top : Option NodeRef) → HasNoEmptyNodes held below top → Filled held below 0 top
+pub filled_of : (held : List (List ℕ)) (below : ℕ) (top : Option NodeRef) → HasNoEmptyNodes held below top → Filled held below 0 top
 unfolding Filled
 filled_of held below top filled index depth place node at is there = filled index depth place node (first_place (below + 1) index at) is there
 
@@ -87,7 +87,7 @@ hole_tree held record_size blocks few =
 
 -- ---- a run into a tree
 
-tree_known : (held : List (List ℕ)) (record_size : ℕ) (run : Run) (refs : List (Option BlockRef)) (index : ℕ) → 1 ≤ run.levels
+pub tree_known : (held : List (List ℕ)) (record_size : ℕ) (run : Run) (refs : List (Option BlockRef)) (index : ℕ) → 1 ≤ run.levels
     → IsTree held record_size (tree_before run) refs → walk_to held record_size run index ≡ Ok (get_or refs index None)
 tree_known held record_size run refs index some is =
     elim (cases_lt index (32 ^ run.levels)) [
@@ -104,7 +104,7 @@ pub tree_passes : (held : List (List ℕ)) (record_size : ℕ) (run : Run) (refs
 tree_passes held record_size run refs some is =
     record { each = λ j touched. subst (λ (r : Result (Option BlockRef) MacError). IsOk r) (sym (tree_known held record_size run refs (32 * j) some is)) refl }
 
-new_blocks : (held : List (List ℕ)) (record_size : ℕ) (run : Run) (refs : List (Option BlockRef)) (index : ℕ) → 1 ≤ run.levels
+pub new_blocks : (held : List (List ℕ)) (record_size : ℕ) (run : Run) (refs : List (Option BlockRef)) (index : ℕ) → 1 ≤ run.levels
     → IsTree held record_size (tree_before run) refs → target run (old_of held record_size run) index ≡ get_or (with_run run refs) index None
 unfolding target with_run old_of
 new_blocks held record_size run refs index some is =
@@ -119,7 +119,7 @@ new_blocks held record_size run refs index some is =
           rw beyond (sym (get_or_past (map F (range_with_len 0 run.blocks)) index None (omega (arith, past, length-map-range_with_len F 0 run.blocks))))
     ]
 
-length-with_run : (run : Run) (refs : List (Option BlockRef)) → length (with_run run refs) ≡ run.blocks
+pub length-with_run : (run : Run) (refs : List (Option BlockRef)) → length (with_run run refs) ≡ run.blocks
 unfolding with_run
 length-with_run run refs = length-map-range_with_len _ 0 run.blocks
 

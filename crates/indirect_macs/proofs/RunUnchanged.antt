@@ -1,0 +1,89 @@
+-- A run that changes no reference puts nothing.
+use Rattle.std.proofs.Common.{◌≡◌, ℕ, zero, suc, ◌+◌, ◌-◌, ◌*◌, ◌/◌, ◌%◌, ◌^◌, ◌<◌, ◌≤◌, Bool, true, false, ◌||◌, ◌&&◌, ◌==◌, nat_lt, nat_le, List, [], ◌∷◌, ◌++◌, length, map, get_or, refl, sym, ap, subst, ◌∙◌, ◌⊎◌, inl, inr, arith, Option, Some, None, is_some, is_none, Result, Ok, Err, if◌then◌else◌}
+use Rattle.std.specs.List.{list_all, range_with_len, slice_get}
+use Rattle.std.specs.Option.{option_eq}
+use Rattle.std.specs.Str.{bytes_eq}
+use Rattle.std.specs.Cmp.Lexicographic.{pointwise}
+use Rattle.std.proofs.lemmas.Bool.{cases_lt, ne_eqb, eq-eqb}
+use Rattle.std.proofs.lemmas.List.{get_or_past}
+use Rattle.std.proofs.lemmas.List.Folds.{list_all-map}
+use Rattle.std.proofs.Math.Path.{fun_ext}
+use Rattle.std.proofs.Math.Nat.{div-mul-le_self}
+use Rattle.indirect_macs.specs.declared.refs.BlockRef.{BlockRef}
+use Rattle.indirect_macs.specs.declared.refs.NodeRef.{NodeRef}
+use Rattle.indirect_macs.specs.declared.refs.MacError.{MacError}
+use Rattle.indirect_macs.specs.Entries.{block_at, node_at}
+use Rattle.indirect_macs.specs.Nodes.{slots, entry_at, blocks_of, refs_of}
+use Rattle.indirect_macs.specs.Walk.{place_of, slot_of, passed, walk, goes_on}
+use Rattle.indirect_macs.specs.Trees.{IsRunOn, IsTree, tree_before, with_run, is_empty_node}
+use Rattle.indirect_macs.specs.Runs.{Run, Old, Made, Node, first_at, last_at, count_at, levels_for, child_of, found_at, walk_to, or_hole, old_of, target, new_ref, entries_at, same_block, same_node, leaf_of, inner_of, new_node, kept, is_put, puts_with, ref_with, begun, nodes_made, levels_made, puts_of}
+use Rattle.indirect_macs.proofs.Spelling.{each_passes, passes_at}
+use Rattle.indirect_macs.proofs.FirstPlace.{passed_held}
+use Rattle.indirect_macs.proofs.TreeFold.{walk_none, walk_through, walk_last, walked_top, slot_above, place_above, first_under, goes_ok, ok_same, block_holes, entries_above, lowest_slot, lowest_place}
+use Rattle.indirect_macs.proofs.RunFound.{walk_by_place, found_child}
+use Rattle.indirect_macs.proofs.RunMade.{nodes_ref}
+use Rattle.indirect_macs.proofs.RunNodes.{bytes_same, inner_holes}
+use Rattle.indirect_macs.proofs.RunEntries.{new_ref_cases, slot_entry}
+use Rattle.indirect_macs.proofs.RunFilled.{Filled, found_filled, filled_child, node_filled}
+use Rattle.indirect_macs.proofs.RunTrees.{tree_known, new_blocks, filled_of, length-with_run}
+
+-- ---- what is compared with itself is the same
+
+block_itself : (a : BlockRef) → same_block a a ≡ true
+block_itself a =
+    rw (eq-eqb a.size a.size refl, eq-eqb a.addr a.addr refl, bytes_same a.salt a.salt refl, bytes_same a.iv a.iv refl, bytes_same a.mac a.mac refl) refl
+
+node_itself : (a : NodeRef) → same_node a a ≡ true
+node_itself a = rw (eq-eqb a.addr a.addr refl, bytes_same a.mac a.mac refl) refl
+
+option_itself : {X : Type 0} (test : X → X → Bool) → ((x : X) → test x x ≡ true) → (o : Option X) → option_eq test o o ≡ true
+option_itself test itself None = refl
+option_itself test itself (Some x) = itself x
+
+list_itself : {X : Type 0} (test : X → X → Bool) → ((x : X) → test x x ≡ true) → (xs : List X) → pointwise test xs xs ≡ true
+list_itself test itself [] = refl
+list_itself test itself (x ∷ xs) = rw (itself x) (list_itself test itself xs)
+
+-- a node that is a hole where the old one is
+no_change : (before : ℕ) (node : Node) (o : Option NodeRef) → (node.holes ≡ true → o ≡ None) → (o ≡ None → node.holes ≡ true)
+    → (is_put node o ≡ false) × (ref_with before node o ≡ o)
+no_change before node o none holes = by_holes node.holes refl o refl
+  where
+    by_holes : (h : Bool) → node.holes ≡ h → (p : Option NodeRef) → o ≡ p → (is_put node o ≡ false) × (ref_with before node o ≡ o)
+    by_holes true is p same = let hole = none is in rw (is, hole) (refl, refl)
+    by_holes false is None same = let all = holes same in absurd (cc)
+    by_holes false is (Some r) same = rw (is, same) (refl, refl)
+
+-- ---- a node over holes alone isn't there
+
+all_none : {X : Type 0} (g : ℕ → Option X) → ((s : ℕ) → s < 32 → g s ≡ None) → list_all is_none (map g slots) ≡ true
+unfolding slots
+all_none g holes =
+    list_all-map is_none g (range_with_len 0 32) ∙ each_passes (λ s. is_none (g s)) 32 (λ s within. ap is_none (holes s within))
+
+pub hollow : (held : List (List ℕ)) (record_size low j : ℕ) (top : Option NodeRef) → Filled held low j top
+    → ((index : ℕ) → place_of (low + 1) index ≡ j → walk held record_size index low top ≡ Ok None) → top ≡ None
+hollow held record_size low j None filled holes = refl
+hollow held record_size zero j (Some node) filled holes =
+    let top = walked_top held record_size (j * 32 ^ 1) zero node None (holes (j * 32 ^ 1) (first_under 1 j)) in
+    let some = node_filled held zero j node top.0 filled (passed_held held record_size 1 node top.0 top.1) in
+    let none = all_none (λ s. block_at (entry_at 1 top.0 s)) (λ s within.
+        ok_same (block_at (entry_at 1 top.0 s)) None
+        (ap (λ (slot : ℕ). let found : Result (Option BlockRef) MacError = Ok (block_at (entry_at 1 top.0 slot)) in found) (sym (lowest_slot j s within))
+        ∙ sym (walk_last held record_size (32 * j + s) node top.0 top.1) ∙ holes (32 * j + s) (lowest_place j s within))) in
+    let also : is_empty_node 1 top.0 ≡ true = sym (block_holes top.0) ∙ none in
+    absurd (cc)
+hollow held record_size (suc low) j (Some node) filled holes =
+    let index : ℕ = j * 32 ^ (suc low + 1) in
+    let top = walked_top held record_size index (suc low) node None (holes index (first_under (suc low + 1) j)) in
+    let level : suc low + 1 ≡ low + 2 = omega arith in
+    let passes : passed held record_size (low + 2) node ≡ Some top.0 = ap (λ (l : ℕ). passed held record_size l node) (sym level) ∙ top.1 in
+    let some : is_empty_node (low + 2) top.0 ≡ false = subst (λ (l : ℕ). is_empty_node l top.0 ≡ false) level
+        (node_filled held (suc low) j node top.0 filled (passed_held held record_size (low + 2) node top.0 passes)) in
+    let none = all_none (λ s. node_at (entry_at 2 top.0 s)) (λ s within.
+        ap node_at (sym (entries_above low top.0 s))
+        ∙ hollow held record_size low (32 * j + s) (node_at (entry_at (low + 2) top.0 s)) (filled_child held record_size low j s node top.0 within passes filled)
+        (λ i at. ap (λ (slot : ℕ). walk held record_size i low (node_at (entry_at (low + 2) top.0 slot))) (sym (slot_above low i j s within at))
+        ∙ sym (walk_through held record_size i low node top.0 passes) ∙ holes i (place_above low i j s within at))) in
+    let also : is_empty_node (low + 2) top.0 ≡ true = sym (inner_holes low top.0) ∙ none in
+    absurd (cc)
