@@ -87,3 +87,95 @@ hollow held record_size (suc low) j (Some node) filled holes =
         ∙ sym (walk_through held record_size i low node top.0 passes) ∙ holes i (place_above low i j s within at))) in
     let also : is_empty_node (low + 2) top.0 ≡ true = sym (inner_holes low top.0) ∙ none in
     absurd (cc)
+
+none_entry : {X : Type 0} (entries : List (Option X)) (s : ℕ) → list_all is_none entries ≡ true → get_or entries s None ≡ None
+none_entry {X = X} entries s holes =
+    elim (cases_lt s (length entries)) [
+      | inl within ↦ is_hole (get_or entries s None) (passes_at is_none entries None s within holes)
+      | inr past ↦ get_or_past entries s None past
+    ]
+  where
+    is_hole : (o : Option X) → is_none o ≡ true → o ≡ None
+    is_hole None none = refl
+    is_hole (Some x) none = absurd (cc)
+
+-- ---- a run into a tree
+
+module _ (held : List (List ℕ)) (record_size : ℕ) (run : Run) (refs : List (Option BlockRef)) (levels : 1 ≤ run.levels) (is : IsTree held record_size (tree_before run) refs)
+    (same : (index : ℕ) → get_or (with_run run refs) index None ≡ get_or refs index None) where
+  abbrev old : Old
+  old = old_of held record_size run
+
+  abbrev made : ℕ → Made
+  made level = levels_made run old (length held) level
+
+  abbrev found : ℕ → Result (Option BlockRef) MacError
+  found index = Ok (get_or refs index None)
+
+  target_same : (index : ℕ) → target run old index ≡ old.block index
+  unfolding old_of
+  target_same index =
+      new_blocks held record_size run refs index levels is ∙ same index ∙ sym (ap or_hole (tree_known held record_size run refs index levels is))
+
+  old_block : (index : ℕ) → old.block index ≡ get_or refs index None
+  unfolding old_of
+  old_block index = ap or_hole (tree_known held record_size run refs index levels is)
+
+  beyond : (index : ℕ) → run.blocks ≤ index → get_or refs index None ≡ None
+  beyond index past = sym (same index) ∙ get_or_past (with_run run refs) index None (omega (arith, past, length-with_run run refs))
+
+  -- the old nodes
+  old_filled : (low j : ℕ) → low + 1 ≤ run.levels → Filled held low j (old.node (low + 1) j)
+  unfolding old_of
+  old_filled low j within =
+      found_filled held record_size run (run.levels - (low + 1)) low j (omega (arith, within)) (filled_of held (run.levels - 1) run.top is.filled)
+
+  old_found : (low index : ℕ) → low + 1 ≤ run.levels → found_at held record_size run (low + 1) (place_of (low + 1) index) ≡ Ok (old.node (low + 1) (place_of (low + 1) index))
+  unfolding old_of
+  old_found low index within =
+      let went = goes_ok (λ next. walk held record_size index low next) (found_at held record_size run (low + 1) (place_of (low + 1) index)) (get_or refs index None)
+          (sym (walk_by_place held record_size run low index within) ∙ tree_known held record_size run refs index levels is) in
+      went.1 ∙ ap (λ (r : Result (Option NodeRef) MacError). let there : Result (Option NodeRef) MacError = Ok (or_hole r) in there) (sym went.1)
+
+  old_walk : (low index : ℕ) → low + 1 ≤ run.levels → walk held record_size index low (old.node (low + 1) (place_of (low + 1) index)) ≡ found index
+  old_walk low index within =
+      ap (λ (r : Result (Option NodeRef) MacError). goes_on (λ next. walk held record_size index low next) (λ failed. Err failed) r) (sym (old_found low index within))
+      ∙ sym (walk_by_place held record_size run low index within) ∙ tree_known held record_size run refs index levels is
+
+  old_hollow : (low j : ℕ) → low + 1 ≤ run.levels → ((index : ℕ) → place_of (low + 1) index ≡ j → get_or refs index None ≡ None) → old.node (low + 1) j ≡ None
+  old_hollow low j within none =
+      hollow held record_size low j (old.node (low + 1) j) (old_filled low j within) (λ index at.
+      ap (λ (p : ℕ). walk held record_size index low (old.node (low + 1) p)) (sym at) ∙ old_walk low index within
+      ∙ ap (λ (o : Option BlockRef). let r : Result (Option BlockRef) MacError = Ok o in r) (none index at))
+
+  old_none : (low index : ℕ) → low + 1 ≤ run.levels → old.node (low + 1) (place_of (low + 1) index) ≡ None → get_or refs index None ≡ None
+  old_none low index within none =
+      ok_same (get_or refs index None) None
+      (sym (old_walk low index within) ∙ ap (walk held record_size index low) none ∙ walk_none held record_size index low)
+
+  -- ---- the nodes of one level stay
+
+  leaf_stays : (below : Made) (j : ℕ) → kept run old 1 below j ≡ old.node 1 j
+  unfolding kept
+  leaf_stays below j =
+      let entries : entries_at old.block j ≡ entries_at (target run old) j = ap (λ (f : ℕ → Option BlockRef). entries_at f j) (sym (fun_ext target_same)) in
+      let alike : pointwise (option_eq same_block) (entries_at old.block j) (entries_at (target run old) j) ≡ true =
+      ap (pointwise (option_eq same_block) (entries_at old.block j)) (sym entries)
+      ∙ list_itself (option_eq same_block) (option_itself same_block block_itself) (entries_at old.block j) in
+      rw alike refl
+
+  leaf_holes : (below : Made) (j : ℕ) → (new_node run old 1 below j).holes ≡ true → old.node 1 j ≡ None
+  unfolding new_node leaf_of
+  leaf_holes below j holes =
+      old_hollow zero j levels (λ index at.
+      let s : ℕ = index % 32 in
+      let parts : 32 * j + s ≡ index = omega (arith, at) in
+      sym (old_block index) ∙ sym (target_same index)
+      ∙ ap (target run old) (sym parts) ∙ sym (slot_entry (target run old) j s None (omega arith)) ∙ none_entry (entries_at (target run old) j) s holes)
+
+  leaf_full : (below : Made) (j : ℕ) → old.node 1 j ≡ None → (new_node run old 1 below j).holes ≡ true
+  unfolding new_node leaf_of
+  leaf_full below j none =
+      all_none (λ s. target run old (32 * j + s)) (λ s within.
+      target_same (32 * j + s) ∙ old_block (32 * j + s)
+      ∙ old_none zero (32 * j + s) levels (ap (old.node 1) (lowest_place j s within) ∙ none))
