@@ -107,7 +107,7 @@ new_leaf : (run : Run) (old : Old) (below : Made) (j : ℕ) → new_node run old
 unfolding new_node
 new_leaf run old below j = refl
 
-new_inner : (run : Run) (old : Old) (low : ℕ) (below : Made) (j : ℕ) → new_node run old (low + 2) below j ≡ inner_of (low + 2) (entries_at (new_ref run old (low + 1) below) j)
+pub new_inner : (run : Run) (old : Old) (low : ℕ) (below : Made) (j : ℕ) → new_node run old (low + 2) below j ≡ inner_of (low + 2) (entries_at (new_ref run old (low + 1) below) j)
 unfolding new_node
 new_inner run old low below j =
     let other : (low + 2 == 1) ≡ false = ne_eqb (low + 2) 1 (λ e. omega (arith, e)) in

@@ -19,11 +19,11 @@ use Rattle.indirect_macs.specs.Trees.{IsRunOn, IsTree, tree_before, with_run, is
 use Rattle.indirect_macs.specs.Runs.{Run, Old, Made, Node, first_at, last_at, count_at, levels_for, child_of, found_at, walk_to, or_hole, old_of, target, new_ref, entries_at, same_block, same_node, leaf_of, inner_of, new_node, kept, is_put, puts_with, ref_with, begun, nodes_made, levels_made, puts_of}
 use Rattle.indirect_macs.proofs.Spelling.{each_passes, passes_at}
 use Rattle.indirect_macs.proofs.FirstPlace.{passed_held}
-use Rattle.indirect_macs.proofs.TreeFold.{walk_none, walk_through, walk_last, walked_top, slot_above, place_above, first_under, goes_ok, ok_same, block_holes, entries_above, lowest_slot, lowest_place}
+use Rattle.indirect_macs.proofs.TreeFold.{child_place, walk_none, walk_through, walk_last, walked_top, slot_above, place_above, first_under, goes_ok, ok_same, block_holes, entries_above, lowest_slot, lowest_place}
 use Rattle.indirect_macs.proofs.RunFound.{walk_by_place, found_child}
 use Rattle.indirect_macs.proofs.RunMade.{nodes_ref}
 use Rattle.indirect_macs.proofs.RunNodes.{bytes_same, inner_holes}
-use Rattle.indirect_macs.proofs.RunEntries.{new_ref_cases, slot_entry}
+use Rattle.indirect_macs.proofs.RunEntries.{new_ref_cases, slot_entry, new_inner, levels_some}
 use Rattle.indirect_macs.proofs.RunFilled.{Filled, found_filled, filled_child, node_filled}
 use Rattle.indirect_macs.proofs.RunTrees.{tree_known, new_blocks, filled_of, length-with_run}
 
@@ -179,3 +179,130 @@ module _ (held : List (List ℕ)) (record_size : ℕ) (run : Run) (refs : List (
       all_none (λ s. target run old (32 * j + s)) (λ s within.
       target_same (32 * j + s) ∙ old_block (32 * j + s)
       ∙ old_none zero (32 * j + s) levels (ap (old.node 1) (lowest_place j s within) ∙ none))
+
+  inner_stays : (low j : ℕ) → ((index : ℕ) → new_ref run old (low + 1) (made (low + 1)) index ≡ old.node (low + 1) index)
+      → kept run old (low + 2) (made (low + 1)) j ≡ old.node (low + 2) j
+  unfolding kept
+  inner_stays low j below =
+      let other : (low + 2 == 1) ≡ false = ne_eqb (low + 2) 1 (λ e. omega (arith, e)) in
+      let level : low + 2 - 1 ≡ low + 1 = omega arith in
+      let entries = ap (λ (f : ℕ → Option NodeRef). pointwise (option_eq same_node) (entries_at (old.node (low + 1)) j) (entries_at f j)) (fun_ext below) in
+      let alike : pointwise (option_eq same_node) (entries_at (old.node (low + 1)) j) (entries_at (new_ref run old (low + 1) (made (low + 1))) j) ≡ true =
+      entries ∙ list_itself (option_eq same_node) (option_itself same_node node_itself) (entries_at (old.node (low + 1)) j) in
+      rw (other, level, alike) refl
+
+  inner_is_hole : (low j : ℕ) → low + 2 ≤ run.levels → ((index : ℕ) → new_ref run old (low + 1) (made (low + 1)) index ≡ old.node (low + 1) index)
+      → (new_node run old (low + 2) (made (low + 1)) j).holes ≡ true → old.node (low + 2) j ≡ None
+  unfolding inner_of
+  inner_is_hole low j within below holes =
+      let refs_below : ℕ → Option NodeRef = new_ref run old (low + 1) (made (low + 1)) in
+      let all : list_all is_none (entries_at refs_below j) ≡ true = sym (ap (λ (n : Node). n.holes) (new_inner run old low (made (low + 1)) j)) ∙ holes in
+      let up : low + 1 + 1 ≡ low + 2 = omega arith in
+      subst (λ (l : ℕ). old.node l j ≡ None) up
+      (old_hollow (low + 1) j (omega (arith, within)) (λ index at.
+      let s : ℕ = place_of (low + 1) index % 32 in
+      let parent : place_of (low + 1) index / 32 ≡ j = child_place (low + 1) index ∙ at in
+      let parts : place_of (low + 1) index ≡ 32 * j + s = omega (arith, parent) in
+      old_none low index (omega (arith, within))
+      (ap (old.node (low + 1)) parts ∙ sym (below (32 * j + s)) ∙ sym (slot_entry refs_below j s None (omega arith)) ∙ none_entry (entries_at refs_below j) s all)))
+
+  inner_is_full : (low j : ℕ) → low + 2 ≤ run.levels → ((index : ℕ) → new_ref run old (low + 1) (made (low + 1)) index ≡ old.node (low + 1) index)
+      → old.node (low + 2) j ≡ None → (new_node run old (low + 2) (made (low + 1)) j).holes ≡ true
+  unfolding inner_of
+  inner_is_full low j within below none =
+      let refs_below : ℕ → Option NodeRef = new_ref run old (low + 1) (made (low + 1)) in
+      let up : low + 1 + 1 ≡ low + 2 = omega arith in
+      ap (λ (n : Node). n.holes) (new_inner run old low (made (low + 1)) j)
+      ∙ all_none (λ s. refs_below (32 * j + s)) (λ s slot.
+      below (32 * j + s) ∙ old_hollow low (32 * j + s) (omega (arith, within)) (λ index at.
+      old_none (low + 1) index (omega (arith, within))
+      (ap (λ (l : ℕ). old.node l (place_of l index)) up
+      ∙ ap (old.node (low + 2)) (ap (λ (l : ℕ). place_of l index) (omega arith) ∙ place_above low index j s slot at) ∙ none)))
+
+  -- ---- the levels stay
+
+  record Stays (level : ℕ) (m : Made) (j : ℕ) : Type 0 where
+    pub node : kept run old level m j ≡ old.node level j
+    pub hole : (new_node run old level m j).holes ≡ true → old.node level j ≡ None
+    pub full : old.node level j ≡ None → (new_node run old level m j).holes ≡ true
+
+  record Same (level : ℕ) : Type 0 where
+    pub puts : (made level).puts ≡ []
+    pub each : (index : ℕ) → new_ref run old level (made level) index ≡ old.node level index
+
+  not_put : (level before : ℕ) (m : Made) (j : ℕ) → Stays level m j
+      → (is_put (new_node run old level m j) (kept run old level m j) ≡ false) × (ref_with before (new_node run old level m j) (kept run old level m j) ≡ old.node level j)
+  not_put level before m j stays =
+      let none = no_change before (new_node run old level m j) (old.node level j) stays.hole stays.full in
+      subst (λ (o : Option NodeRef). (is_put (new_node run old level m j) o ≡ false) × (ref_with before (new_node run old level m j) o ≡ old.node level j)) (sym stays.node) none
+
+  no_puts : (level n : ℕ) (m : Made) → level ≤ run.levels → m.puts ≡ [] → ((j : ℕ) → Stays level m j) → (nodes_made run old (length held) level m n).puts ≡ []
+  unfolding nodes_made begun
+  no_puts level zero m low none stays =
+      let below : nat_lt run.levels level ≡ false = grind (arith, low) in
+      rw below none
+  no_puts level (suc n) m low none stays =
+      let j : ℕ = first_at run level + n in
+      let still : is_put (new_node run old level m j) (kept run old level m j) ≡ false = (not_put level 0 m j (stays j)).0 in
+      ap (λ (b : Bool). if b then (nodes_made run old (length held) level m n).puts ++ (new_node run old level m j).bytes ∷ [] else (nodes_made run old (length held) level m n).puts) still
+      ∙ no_puts level n m low none stays
+
+  level_stays : (low : ℕ) → suc low ≤ levels_for run.blocks → suc low ≤ run.levels → (made low).puts ≡ [] → ((j : ℕ) → Stays (suc low) (made low) j) → Same (suc low)
+  unfolding levels_made count_at
+  level_stays low most within none stays =
+      let m : Made = made low in
+      let level : suc low ≡ low + 1 = omega arith in
+      record {
+        puts = no_puts (suc low) (count_at run (suc low)) m within none stays;
+        each = λ index. new_ref_cases (λ r. r ≡ old.node (suc low) index) run old (suc low) index (made (suc low))
+            (λ from to.
+            let i : ℕ = index - first_at run (suc low) in
+            let at : first_at run (suc low) + i ≡ index = omega (arith, from) in
+            nodes_ref run old (length held) (suc low) m i (count_at run (suc low)) (omega (arith, from, to))
+            ∙ (not_put (suc low) (length held + length (nodes_made run old (length held) (suc low) m i).puts) m (first_at run (suc low) + i) (stays (first_at run (suc low) + i))).1
+            ∙ ap (old.node (suc low)) at)
+            (λ out past.
+            sym (subst (λ (l : ℕ). old.node l index ≡ None) (sym level)
+            (old_hollow low index (omega (arith, within)) (λ i at. beyond i
+            (let down : place_of (low + 1) i * 32 ^ (low + 1) ≤ i = div-mul-le_self i (32 ^ (low + 1)) in
+            let start : place_of (low + 1) i * 32 ^ (low + 1) ≡ index * 32 ^ (suc low) = ap (λ (p : ℕ). p * 32 ^ (low + 1)) at ∙ ap (λ (l : ℕ). index * 32 ^ l) (sym level) in
+            omega (arith, down, start, past))))))
+            (λ out inside above first. absurd (omega (arith, above, within))) (λ out above later. absurd (omega (arith, above, within))) (λ out inside low_level. refl);
+      }
+
+  leaf_each : (low : ℕ) → low ≡ 0 → (j : ℕ) → Stays (suc low) (made low) j
+  leaf_each low first j =
+      let level : suc low ≡ 1 = omega (arith, first) in
+      subst (λ (l : ℕ). Stays l (made low) j) (sym level) (record { node = leaf_stays (made low) j; hole = leaf_holes (made low) j; full = leaf_full (made low) j })
+
+  inner_each : (low : ℕ) → suc (suc low) ≤ run.levels → Same (suc low) → (j : ℕ) → Stays (suc (suc low)) (made (suc low)) j
+  inner_each low within below j =
+      let at : suc low ≡ low + 1 = omega arith in
+      let level : suc (suc low) ≡ low + 2 = omega arith in
+      let each = subst (λ (l : ℕ). (index : ℕ) → new_ref run old l (made l) index ≡ old.node l index) at below.each in
+      let high : low + 2 ≤ run.levels = omega (arith, within) in
+      let stays : Stays (low + 2) (made (low + 1)) j = record { node = inner_stays low j each; hole = inner_is_hole low j high each; full = inner_is_full low j high each } in
+      subst (λ (l : ℕ). Stays l (made (suc low)) j) (sym level) (subst (λ (l : ℕ). Stays (low + 2) (made l) j) (sym at) stays)
+
+  nothing_below : (made 0).puts ≡ []
+  unfolding levels_made
+  nothing_below = refl
+
+  all_same : (low : ℕ) → suc low ≤ levels_for run.blocks → levels_for run.blocks ≤ run.levels → Same (suc low)
+  all_same zero most few = level_stays zero most (omega (arith, most, few)) nothing_below (leaf_each zero refl)
+  all_same (suc low) most few =
+      let below = all_same low (omega (arith, most)) few in
+      level_stays (suc low) most (omega (arith, most, few)) below.puts (inner_each low (omega (arith, most, few)) below)
+
+  pub nothing_put : levels_for run.blocks ≤ run.levels → puts_of run old (length held) ≡ []
+  unfolding puts_of
+  nothing_put few = by_none (run.blocks == 0)
+    where
+      top : (made (levels_for run.blocks)).puts ≡ []
+      top =
+          let level : levels_for run.blocks ≡ suc (levels_for run.blocks - 1) = omega (arith, levels_some run.blocks) in
+          subst (λ (l : ℕ). (made l).puts ≡ []) (sym level) (all_same (levels_for run.blocks - 1) (omega (arith, level)) few).puts
+
+      by_none : (b : Bool) → (if b then [] else (made (levels_for run.blocks)).puts) ≡ []
+      by_none true = refl
+      by_none false = top

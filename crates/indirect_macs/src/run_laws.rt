@@ -1,8 +1,8 @@
 // Laws of trees and of the run. The functions do nothing.
-ghost use Rattle.std.specs.Prelude.{◌≡◌, ◌+◌, ◌-◌, ◌/◌, ◌<◌, ◌≤◌, ◌++◌, ℕ, List, Option, None, Ok, All, IfSome, length, replicate, slice_index_or};
+ghost use Rattle.std.specs.Prelude.{◌≡◌, ◌+◌, ◌-◌, ◌/◌, ◌<◌, ◌≤◌, ◌++◌, ℕ, List, [], Option, None, Ok, All, IfSome, length, replicate, slice_index_or};
 ghost use Rattle.std.specs.Option.{option_map};
 ghost use Rattle.indirect_macs.specs.Fold.{fold_mac};
-ghost use Rattle.indirect_macs.specs.Runs.{Old, Passes, Run, levels_for, most_puts, most_reads, puts_of, walk_to};
+ghost use Rattle.indirect_macs.specs.Runs.{Old, Passes, Run, levels_for, most_puts, most_reads, old_of, puts_of, walk_to};
 ghost use Rattle.indirect_macs.specs.Trees.{AreBytes, HasBytes, HoldsBytes, IsRunOn, IsTree, LosesAll, held_after, tree_after, tree_before, walk_after, with_run};
 ghost use Rattle.indirect_macs.specs.Walk.{walk};
 ghost use Rattle.indirect_macs.specs.declared.refs.BlockRef.{BlockRef};
@@ -40,6 +40,15 @@ pub fn runs_keep_bytes()
         → IsRunOn held record_size run → All (λ entry. IfSome entry HasBytes) run.refs
         → IfSome run.top (λ node. AreBytes node.mac) → IsTree held record_size (tree_before run) refs → LosesAll run refs
         → option_map (λ node. node.mac) (tree_after held record_size run).top ≡ fold_mac (with_run run refs) }
+{}
+
+/// A run that changes no reference of a tree in its one spelling puts nothing, so neither does a
+/// cut that loses holes alone, also where levels are lost.
+pub fn runs_put_only_changes()
+    ensures { (held : List (List ℕ)) (record_size : ℕ) (run : Run) (refs : List (Option BlockRef)) → 1 ≤ run.levels
+        → IsTree held record_size (tree_before run) refs
+        → ((index : ℕ) → slice_index_or (with_run run refs) index None ≡ slice_index_or refs index None)
+        → levels_for run.blocks ≤ run.levels → puts_of run (old_of held record_size run) (length held) ≡ [] }
 {}
 
 /// A run of `n` references reads at most `n / 31 + 9` nodes, and puts as many at most where the tree
