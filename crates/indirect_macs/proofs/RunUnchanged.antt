@@ -1,8 +1,7 @@
 -- A run that changes no reference puts nothing.
-use Rattle.std.proofs.Common.{◌≡◌, ℕ, zero, suc, ◌+◌, ◌-◌, ◌*◌, ◌/◌, ◌%◌, ◌^◌, ◌<◌, ◌≤◌, Bool, true, false, ◌||◌, ◌&&◌, ◌==◌, nat_lt, nat_le, List, [], ◌∷◌, ◌++◌, length, map, get_or, refl, sym, ap, subst, ◌∙◌, ◌⊎◌, inl, inr, arith, Option, Some, None, is_some, is_none, Result, Ok, Err, if◌then◌else◌}
-use Rattle.std.specs.List.{list_all, range_with_len, slice_get}
+use Rattle.std.proofs.Common.{◌≡◌, ℕ, zero, suc, ◌+◌, ◌-◌, ◌*◌, ◌/◌, ◌%◌, ◌^◌, ◌<◌, ◌≤◌, Bool, true, false, ◌==◌, nat_lt, List, [], ◌∷◌, ◌++◌, length, map, get_or, refl, sym, ap, subst, ◌∙◌, inl, inr, arith, Option, Some, None, is_none, Result, Ok, Err, if◌then◌else◌}
+use Rattle.std.specs.List.{list_all, range_with_len}
 use Rattle.std.specs.Option.{option_eq}
-use Rattle.std.specs.Str.{bytes_eq}
 use Rattle.std.specs.Cmp.Lexicographic.{pointwise}
 use Rattle.std.proofs.lemmas.Bool.{cases_lt, ne_eqb, eq-eqb}
 use Rattle.std.proofs.lemmas.List.{get_or_past}
@@ -13,14 +12,14 @@ use Rattle.indirect_macs.specs.declared.refs.BlockRef.{BlockRef}
 use Rattle.indirect_macs.specs.declared.refs.NodeRef.{NodeRef}
 use Rattle.indirect_macs.specs.declared.refs.MacError.{MacError}
 use Rattle.indirect_macs.specs.Entries.{block_at, node_at}
-use Rattle.indirect_macs.specs.Nodes.{slots, entry_at, blocks_of, refs_of}
-use Rattle.indirect_macs.specs.Walk.{place_of, slot_of, passed, walk, goes_on}
-use Rattle.indirect_macs.specs.Trees.{IsRunOn, IsTree, tree_before, with_run, is_empty_node}
-use Rattle.indirect_macs.specs.Runs.{Run, Old, Made, Node, first_at, last_at, count_at, levels_for, child_of, found_at, walk_to, or_hole, old_of, target, new_ref, entries_at, same_block, same_node, leaf_of, inner_of, new_node, kept, is_put, puts_with, ref_with, begun, nodes_made, levels_made, puts_of}
+use Rattle.indirect_macs.specs.Nodes.{slots, entry_at}
+use Rattle.indirect_macs.specs.Walk.{place_of, passed, walk, goes_on}
+use Rattle.indirect_macs.specs.Trees.{IsTree, tree_before, with_run, is_empty_node}
+use Rattle.indirect_macs.specs.Runs.{Run, Old, Made, Node, first_at, count_at, levels_for, found_at, or_hole, old_of, target, new_ref, entries_at, same_block, same_node, leaf_of, inner_of, new_node, kept, is_put, ref_with, begun, nodes_made, levels_made, puts_of}
 use Rattle.indirect_macs.proofs.Spelling.{each_passes, passes_at}
 use Rattle.indirect_macs.proofs.FirstPlace.{passed_held}
 use Rattle.indirect_macs.proofs.TreeFold.{child_place, walk_none, walk_through, walk_last, walked_top, slot_above, place_above, first_under, goes_ok, ok_same, block_holes, entries_above, lowest_slot, lowest_place}
-use Rattle.indirect_macs.proofs.RunFound.{walk_by_place, found_child}
+use Rattle.indirect_macs.proofs.RunFound.{walk_by_place}
 use Rattle.indirect_macs.proofs.RunMade.{nodes_ref}
 use Rattle.indirect_macs.proofs.RunNodes.{bytes_same, inner_holes}
 use Rattle.indirect_macs.proofs.RunEntries.{new_ref_cases, slot_entry, new_inner, levels_some}
@@ -68,9 +67,9 @@ hollow held record_size zero j (Some node) filled holes =
     let top = walked_top held record_size (j * 32 ^ 1) zero node None (holes (j * 32 ^ 1) (first_under 1 j)) in
     let some = node_filled held zero j node top.0 filled (passed_held held record_size 1 node top.0 top.1) in
     let none = all_none (λ s. block_at (entry_at 1 top.0 s)) (λ s within.
-        ok_same (block_at (entry_at 1 top.0 s)) None
-        (ap (λ (slot : ℕ). let found : Result (Option BlockRef) MacError = Ok (block_at (entry_at 1 top.0 slot)) in found) (sym (lowest_slot j s within))
-        ∙ sym (walk_last held record_size (32 * j + s) node top.0 top.1) ∙ holes (32 * j + s) (lowest_place j s within))) in
+    ok_same (block_at (entry_at 1 top.0 s)) None
+    (ap (λ (slot : ℕ). let found : Result (Option BlockRef) MacError = Ok (block_at (entry_at 1 top.0 slot)) in found) (sym (lowest_slot j s within))
+    ∙ sym (walk_last held record_size (32 * j + s) node top.0 top.1) ∙ holes (32 * j + s) (lowest_place j s within))) in
     let also : is_empty_node 1 top.0 ≡ true = sym (block_holes top.0) ∙ none in
     absurd (cc)
 hollow held record_size (suc low) j (Some node) filled holes =
@@ -79,12 +78,12 @@ hollow held record_size (suc low) j (Some node) filled holes =
     let level : suc low + 1 ≡ low + 2 = omega arith in
     let passes : passed held record_size (low + 2) node ≡ Some top.0 = ap (λ (l : ℕ). passed held record_size l node) (sym level) ∙ top.1 in
     let some : is_empty_node (low + 2) top.0 ≡ false = subst (λ (l : ℕ). is_empty_node l top.0 ≡ false) level
-        (node_filled held (suc low) j node top.0 filled (passed_held held record_size (low + 2) node top.0 passes)) in
+    (node_filled held (suc low) j node top.0 filled (passed_held held record_size (low + 2) node top.0 passes)) in
     let none = all_none (λ s. node_at (entry_at 2 top.0 s)) (λ s within.
-        ap node_at (sym (entries_above low top.0 s))
-        ∙ hollow held record_size low (32 * j + s) (node_at (entry_at (low + 2) top.0 s)) (filled_child held record_size low j s node top.0 within passes filled)
-        (λ i at. ap (λ (slot : ℕ). walk held record_size i low (node_at (entry_at (low + 2) top.0 slot))) (sym (slot_above low i j s within at))
-        ∙ sym (walk_through held record_size i low node top.0 passes) ∙ holes i (place_above low i j s within at))) in
+    ap node_at (sym (entries_above low top.0 s))
+    ∙ hollow held record_size low (32 * j + s) (node_at (entry_at (low + 2) top.0 s)) (filled_child held record_size low j s node top.0 within passes filled)
+    (λ i at. ap (λ (slot : ℕ). walk held record_size i low (node_at (entry_at (low + 2) top.0 slot))) (sym (slot_above low i j s within at))
+    ∙ sym (walk_through held record_size i low node top.0 passes) ∙ holes i (place_above low i j s within at))) in
     let also : is_empty_node (low + 2) top.0 ≡ true = sym (inner_holes low top.0) ∙ none in
     absurd (cc)
 
@@ -134,7 +133,7 @@ module _ (held : List (List ℕ)) (record_size : ℕ) (run : Run) (refs : List (
   unfolding old_of
   old_found low index within =
       let went = goes_ok (λ next. walk held record_size index low next) (found_at held record_size run (low + 1) (place_of (low + 1) index)) (get_or refs index None)
-          (sym (walk_by_place held record_size run low index within) ∙ tree_known held record_size run refs index levels is) in
+      (sym (walk_by_place held record_size run low index within) ∙ tree_known held record_size run refs index levels is) in
       went.1 ∙ ap (λ (r : Result (Option NodeRef) MacError). let there : Result (Option NodeRef) MacError = Ok (or_hole r) in there) (sym went.1)
 
   old_walk : (low index : ℕ) → low + 1 ≤ run.levels → walk held record_size index low (old.node (low + 1) (place_of (low + 1) index)) ≡ found index
