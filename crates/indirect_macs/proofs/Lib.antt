@@ -19,3 +19,4 @@ pub mod RunFilled
 pub mod RunTrees
 pub mod RunBytes
 pub mod RunUnchanged
+pub mod RunSamples

@@ -1,7 +1,10 @@
 // Laws of trees and of the run. The functions do nothing.
-ghost use Rattle.std.specs.Prelude.{◌≡◌, ◌+◌, ◌-◌, ◌/◌, ◌<◌, ◌≤◌, ◌++◌, ℕ, List, [], Option, None, Ok, All, IfSome, length, replicate, slice_index_or};
+ghost use Rattle.std.specs.Prelude.{◌≡◌, ◌+◌, ◌-◌, ◌/◌, ◌<◌, ◌≤◌, ◌++◌, ℕ, List, [], ◌∷◌, Option, None, Some, Ok, All, IfSome, length, replicate, slice_index_or};
+ghost use Rattle.std.specs.List.{flat_map};
 ghost use Rattle.std.specs.Option.{option_map};
+ghost use Rattle.indirect_macs.specs.Entries.{block_under_mac};
 ghost use Rattle.indirect_macs.specs.Fold.{fold_mac};
+ghost use Rattle.indirect_macs.specs.Nodes.{block_node, mac_of, ref_node};
 ghost use Rattle.indirect_macs.specs.Runs.{Old, Passes, Run, levels_for, most_puts, most_reads, old_of, puts_of, walk_to};
 ghost use Rattle.indirect_macs.specs.Trees.{AreBytes, HasBytes, HoldsBytes, IsRunOn, IsTree, LosesAll, held_after, tree_after, tree_before, walk_after, with_run};
 ghost use Rattle.indirect_macs.specs.Walk.{walk};
@@ -49,6 +52,19 @@ pub fn runs_put_only_changes()
         → IsTree held record_size (tree_before run) refs
         → ((index : ℕ) → slice_index_or (with_run run refs) index None ≡ slice_index_or refs index None)
         → levels_for run.blocks ≤ run.levels → puts_of run (old_of held record_size run) (length held) ≡ [] }
+{}
+
+/// Two runs by hand, on a shelf with 7 blocks before: the first block of an object, and the 33rd,
+/// over which a node of level 2 is put with the old top in front.
+pub fn runs_by_hand()
+    ensures first { (r : BlockRef)
+        → let run : Run = record { levels = 1; top = None; blocks = 1; from = 0; refs = Some r ∷ [] } in
+        puts_of run (old_of [] 512 run) 7 ≡ block_node (Some r ∷ replicate 31 None) ∷ [] }
+    ensures grown { (r : BlockRef) → let top : NodeRef = record { addr = 3; mac = replicate 16 9 } in
+        let run : Run = record { levels = 1; top = Some top; blocks = 33; from = 32; refs = Some r ∷ [] } in
+        let leaf = Some r ∷ replicate 31 None in
+        let node : NodeRef = record { addr = 7; mac = mac_of 1 (flat_map block_under_mac leaf) } in
+        puts_of run (old_of [] 512 run) 7 ≡ block_node leaf ∷ ref_node (Some top ∷ Some node ∷ replicate 30 None) ∷ [] }
 {}
 
 /// A run of `n` references reads at most `n / 31 + 9` nodes, and puts as many at most where the tree
