@@ -1,12 +1,12 @@
 -- Two runs by hand.
-use Rattle.std.proofs.Common.{◌≡◌, ℕ, List, [], ◌∷◌, length, replicate, refl, Option, Some, None}
+use Rattle.std.proofs.Common.{◌≡◌, [], ◌∷◌, replicate, refl, Some, None}
 use Rattle.std.specs.List.{flat_map}
 use Rattle.indirect_macs.specs.declared.refs.BlockRef.{BlockRef}
 use Rattle.indirect_macs.specs.declared.refs.NodeRef.{NodeRef}
 use Rattle.indirect_macs.specs.Entries.{block_under_mac}
 use Rattle.indirect_macs.specs.Nodes.{slots, block_node, ref_node, mac_of}
 use Rattle.indirect_macs.specs.Walk.{walk}
-use Rattle.indirect_macs.specs.Runs.{Run, Old, first_at, last_at, count_at, found_at, found_below, child_of, walk_to, old_of, target, new_ref, leaf_of, inner_of, new_node, kept, begun, nodes_made, levels_made, puts_of, tree_of}
+use Rattle.indirect_macs.specs.Runs.{first_at, last_at, count_at, found_at, found_below, child_of, walk_to, old_of, target, new_ref, leaf_of, inner_of, new_node, kept, begun, nodes_made, levels_made, puts_of}
 
 pub first_block_put : (r : BlockRef) → puts_of (record { levels = 1; top = None; blocks = 1; from = 0; refs = Some r ∷ [] }) (old_of [] 512 (record { levels = 1; top = None; blocks = 1; from = 0; refs = Some r ∷ [] })) 7
     ≡ block_node (Some r ∷ replicate 31 None) ∷ []
