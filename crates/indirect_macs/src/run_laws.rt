@@ -14,8 +14,8 @@ ghost use Rattle.indirect_macs.specs.declared.refs.ObjTree.{ObjTree};
 
 /// A tree in its one spelling has the MAC of the references that it leads to.
 pub fn tops_are_folds()
-    ensures { (held : List (List ℕ)) (record_size : ℕ) (tree : ObjTree) (refs : List (Option BlockRef)) → HoldsBytes held
-        → IsTree held record_size tree refs → option_map (λ node. node.mac) tree.top ≡ fold_mac refs }
+    ensures { (held : List (List ℕ)) (record_size : ℕ) (tree : ObjTree) (refs : List (Option BlockRef))
+        → HoldsBytes held → IsTree held record_size tree refs → option_map (λ node. node.mac) tree.top ≡ fold_mac refs }
 {}
 
 /// Trees in their one spelling. A tree of holes is one; a longer shelf keeps one. No walk in one
@@ -26,8 +26,8 @@ pub fn runs_keep_trees()
         → IsTree held record_size (record { levels = levels_for blocks; top = None }) (replicate blocks None) }
     ensures grown { (held more : List (List ℕ)) (record_size : ℕ) (tree : ObjTree) (refs : List (Option BlockRef))
         → IsTree held record_size tree refs → IsTree (held ++ more) record_size tree refs }
-    ensures passes { (held : List (List ℕ)) (record_size : ℕ) (run : Run) (refs : List (Option BlockRef)) → 1 ≤ run.levels
-        → IsTree held record_size (tree_before run) refs → Passes held record_size run }
+    ensures passes { (held : List (List ℕ)) (record_size : ℕ) (run : Run) (refs : List (Option BlockRef))
+        → 1 ≤ run.levels → IsTree held record_size (tree_before run) refs → Passes held record_size run }
     ensures kept { (held : List (List ℕ)) (record_size : ℕ) (run : Run) (refs : List (Option BlockRef))
         → IsRunOn held record_size run → IsTree held record_size (tree_before run) refs → LosesAll run refs
         → IsTree (held_after held record_size run) record_size (tree_after held record_size run) (with_run run refs) }
@@ -41,7 +41,8 @@ pub fn runs_keep_bytes()
         → HoldsBytes (held_after held record_size run) }
     ensures folds { (held : List (List ℕ)) (record_size : ℕ) (run : Run) (refs : List (Option BlockRef))
         → IsRunOn held record_size run → All (λ entry. IfSome entry HasBytes) run.refs
-        → IfSome run.top (λ node. AreBytes node.mac) → IsTree held record_size (tree_before run) refs → LosesAll run refs
+        → IfSome run.top (λ node. AreBytes node.mac) → IsTree held record_size (tree_before run) refs
+        → LosesAll run refs
         → option_map (λ node. node.mac) (tree_after held record_size run).top ≡ fold_mac (with_run run refs) }
 {}
 
@@ -98,7 +99,8 @@ pub fn runs_change_their_blocks_alone()
 /// What is put for a run changes nothing of an older tree on the same shelf, as that of a snapshot:
 /// a walk that found a block or a hole finds the same.
 pub fn runs_keep_older_trees()
-    ensures { (held : List (List ℕ)) (record_size : ℕ) (run : Run) (index below : ℕ) (top : Option NodeRef) (found : Option BlockRef)
+    ensures { (held : List (List ℕ)) (record_size : ℕ) (run : Run) (index below : ℕ)
+        (top : Option NodeRef) (found : Option BlockRef)
         → walk held record_size index below top ≡ Ok found
         → walk (held_after held record_size run) record_size index below top ≡ Ok found }
 {}
