@@ -1,6 +1,6 @@
 -- The fold over a list as a recursion on levels: the MAC of the node of each level and index, by the 32 below it.
-use Rattle.std.proofs.Common.{◌≡◌, ℕ, zero, suc, ◌+◌, ◌-◌, ◌*◌, ◌^◌, ◌<◌, ◌≤◌, Bool, true, false, ◌&&◌, List, [], ◌∷◌, ◌++◌, length, map, take, drop, replicate, get_or, refl, sym, ap, ◌∙◌, inl, inr, arith, length-append, length-take, length-drop, Option, Some, None, is_none, if◌then◌else◌}
-use Rattle.std.specs.List.{list_all, flat_map, range_with_len}
+use Rattle.std.proofs.Common.{◌≡◌, ℕ, zero, suc, ◌+◌, ◌-◌, ◌*◌, ◌^◌, ◌<◌, ◌≤◌, Bool, true, false, ◌&&◌, List, [], ◌∷◌, ◌++◌, length, map, drop, replicate, get_or, refl, sym, ap, ◌∙◌, inl, inr, arith, length-append, length-take, Option, None, is_none}
+use Rattle.std.specs.List.{list_all, range_with_len}
 use Rattle.std.proofs.lemmas.Bool.{cases_lt}
 use Rattle.std.proofs.lemmas.List.{get_or-take, get_or_past, get_or-drop, append-nil, length-replicate}
 use Rattle.std.proofs.lemmas.List.Folds.{list_all-append, list_all-map}
@@ -9,10 +9,10 @@ use Rattle.std.proofs.Math.Path.{fun_ext}
 use Rattle.std.proofs.Math.Nat.{pow-suc}
 use Rattle.indirect_macs.specs.declared.refs.BlockRef.{BlockRef}
 use Rattle.indirect_macs.specs.Entries.{block_under_mac, node_under_mac}
-use Rattle.indirect_macs.specs.Nodes.{slots, mac_of}
+use Rattle.indirect_macs.specs.Nodes.{slots}
 use Rattle.indirect_macs.specs.Fold.{filled_up, group_mac, group_at, group_count, group_macs, folded, fold_mac}
 use Rattle.indirect_macs.proofs.Spelling.{each_passes}
-use Rattle.indirect_macs.proofs.Groups.{folded_last, folded_more, length-group_macs, fewer_groups, one_group_least}
+use Rattle.indirect_macs.proofs.Groups.{folded_last, folded_more, length-group_macs}
 
 -- the entries of the node of an index, of a list of all entries of the nodes of its level
 unfoldable pub under : {X : Type 0} → (ℕ → Option X) → ℕ → List (Option X)
@@ -33,7 +33,7 @@ mac_at below f j = raised 1 below (λ i. group_mac 1 block_under_mac (under f i)
 
 -- ---- a group is its 32 entries
 
-padded : {A : Type 0} (xs : List A) (n i : ℕ) (d : A) → get_or (xs ++ replicate n d) i d ≡ get_or xs i d
+pub padded : {A : Type 0} (xs : List A) (n i : ℕ) (d : A) → get_or (xs ++ replicate n d) i d ≡ get_or xs i d
 padded [] zero i d = refl
 padded [] (suc n) zero d = refl
 padded [] (suc n) (suc i) d = padded [] n i d
@@ -110,6 +110,14 @@ macs_by_index level f entries j =
 pub power_least : (k : ℕ) → 1 ≤ 32 ^ k
 power_least zero = omega arith
 power_least (suc k) = omega (arith, power_least k, pow-suc 32 k)
+
+pub power_mono : (a b : ℕ) → a ≤ b → 32 ^ a ≤ 32 ^ b
+power_mono a zero few = let none : a ≡ 0 = omega (arith, few) in rw none (omega arith)
+power_mono a (suc b) few =
+    elim (cases_lt a (suc b)) [
+      | inl less ↦ omega (arith, power_mono a b (omega (arith, less)), pow-suc 32 b)
+      | inr all ↦ let same : a ≡ suc b = omega (arith, all, few) in rw same (omega arith)
+    ]
 
 -- raising by one level first
 raised_first : (level more : ℕ) (f : ℕ → Option (List ℕ)) (j : ℕ)

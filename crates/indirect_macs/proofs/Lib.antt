@@ -18,3 +18,11 @@ pub mod Spans
 pub mod RunReading
 pub mod RunSpans
 pub mod RunPutting
+pub mod RunOld
+pub mod RunEntries
+pub mod RunLeads
+pub mod RunFilled
+pub mod RunTrees
+pub mod RunBytes
+pub mod RunUnchanged
+pub mod RunSamples

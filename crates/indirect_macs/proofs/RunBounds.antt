@@ -1,8 +1,8 @@
 -- How many nodes a run touches.
-use Rattle.std.proofs.Common.{◌≡◌, ℕ, zero, suc, ◌+◌, ◌-◌, ◌*◌, ◌/◌, ◌%◌, ◌^◌, ◌<◌, ◌≤◌, Bool, true, false, ◌&&◌, ◌||◌, ◌==◌, nat_lt, List, [], ◌∷◌, ◌++◌, length, replicate, refl, sym, ap, ◌∙◌, inl, inr, ◌⊎◌, arith, length-append, Option, Some, None, is_some, if◌then◌else◌}
+use Rattle.std.proofs.Common.{◌≡◌, ℕ, zero, suc, ◌+◌, ◌-◌, ◌*◌, ◌/◌, ◌<◌, ◌≤◌, Bool, true, false, ◌&&◌, ◌==◌, nat_lt, List, [], ◌∷◌, ◌++◌, length, replicate, refl, inl, inr, arith, length-append, Option, None, if◌then◌else◌}
 use Rattle.std.proofs.lemmas.Bool.{cases_lt}
 use Rattle.indirect_macs.specs.declared.refs.NodeRef.{NodeRef}
-use Rattle.indirect_macs.specs.Runs.{Run, Old, Made, Node, first_block, last_block, first_at, last_at, count_at, levels_for, touched_below, raised_below, most_reads, most_puts, puts_with, is_put, inner_of, begun, nodes_made, levels_made, puts_of, new_node, kept}
+use Rattle.indirect_macs.specs.Runs.{Run, Old, Made, Node, first_block, last_block, first_at, last_at, count_at, levels_for, touched_below, raised_below, most_puts, puts_with, is_put, inner_of, begun, nodes_made, levels_made, puts_of, new_node, kept}
 
 pub record IsWithin (n first last : ℕ) : Type 0 where
   pub order : first ≤ last
@@ -111,8 +111,11 @@ nodes_more : (run : Run) (old : Old) (base level : ℕ) (below : Made) (count : 
 unfolding nodes_made
 nodes_more run old base level below zero = omega (arith, begun_more run base level below)
 nodes_more run old base level below (suc n) =
-    omega (arith, nodes_more run old base level below n,
-    puts_more (new_node run old level below (first_at run level + n)) (kept run old level below (first_at run level + n)) (nodes_made run old base level below n).puts)
+    omega (
+      arith,
+      nodes_more run old base level below n,
+      puts_more (new_node run old level below (first_at run level + n)) (kept run old level below (first_at run level + n)) (nodes_made run old base level below n).puts,
+    )
 
 levels_more : (run : Run) (old : Old) (base levels : ℕ) → length (levels_made run old base levels).puts ≤ touched_below run levels + raised_below run levels
 unfolding levels_made
@@ -136,5 +139,9 @@ puts_where_levels_stay run stay fits few =
 pub puts_where_levels_grow : (run : Run) → 1 ≤ run.levels → run.from + length run.refs ≤ run.blocks → run.blocks ≤ 8388608
     → most_puts run ≤ length run.refs / 31 + 12
 puts_where_levels_grow run some fits few =
-    omega (arith, touched_few run (levels_for run.blocks) (levels_few run.blocks) fits few,
-    raised_more run (levels_for run.blocks) 5 (levels_few run.blocks), all_raised run some fits few)
+    omega (
+      arith,
+      touched_few run (levels_for run.blocks) (levels_few run.blocks) fits few,
+      raised_more run (levels_for run.blocks) 5 (levels_few run.blocks),
+      all_raised run some fits few,
+    )

@@ -1,9 +1,9 @@
 -- The walk to a block goes through each place over it.
-use Rattle.std.proofs.Common.{◌≡◌, ℕ, zero, suc, ◌+◌, ◌-◌, ◌*◌, ◌/◌, ◌%◌, ◌^◌, ◌<◌, ◌≤◌, Bool, true, false, ◌==◌, nat_lt, List, length, pow-add, refl, sym, ap, subst, ◌∙◌, inl, inr, arith, Option, Some, None, Result, Ok, Err, if◌then◌else◌}
+use Rattle.std.proofs.Common.{◌≡◌, ℕ, zero, suc, ◌+◌, ◌-◌, ◌*◌, ◌/◌, ◌%◌, ◌^◌, ◌<◌, ◌≤◌, true, false, ◌==◌, nat_lt, List, pow-add, refl, sym, ap, ◌∙◌, inl, inr, arith, Option, Some, None, Result, Ok, Err, if◌then◌else◌}
 use Rattle.std.specs.Option.{option_map_or}
 use Rattle.std.proofs.lemmas.Bool.{cases_lt, ne_eqb}
 use Rattle.std.proofs.Math.Nat.{pow-suc, div-eq_of_lt}
-use Rattle.std.proofs.lemmas.Nat.{le-div, div_below}
+use Rattle.std.proofs.lemmas.Nat.{le-div}
 use Rattle.indirect_macs.specs.declared.refs.BlockRef.{BlockRef}
 use Rattle.indirect_macs.specs.declared.refs.NodeRef.{NodeRef}
 use Rattle.indirect_macs.specs.declared.refs.MacError.{MacError}
@@ -127,7 +127,10 @@ walk_by_place held record_size run low index enough =
           sym (pow-add 32 (run.levels - (low + 1)) (low + 1)) ∙ ap (λ (k : ℕ). 32 ^ k) split in
           let beyond : 32 ^ (run.levels - (low + 1)) ≤ place_of (low + 1) index =
           le-div (32 ^ (run.levels - (low + 1))) index (32 ^ (low + 1)) (omega (arith, power_least (low + 1))) (omega (arith, power, past)) in
-          rw (outside, found_within held record_size run (low + 1) (place_of (low + 1) index) enough,
-          found_beyond held record_size run.levels (run.levels - (low + 1)) (place_of (low + 1) index) run.top beyond)
+          rw (
+            outside,
+            found_within held record_size run (low + 1) (place_of (low + 1) index) enough,
+            found_beyond held record_size run.levels (run.levels - (low + 1)) (place_of (low + 1) index) run.top beyond,
+          )
           (sym (walk_none held record_size index low))
     ]

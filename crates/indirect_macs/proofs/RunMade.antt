@@ -1,6 +1,5 @@
 -- What was made of each level: its references, and where what they name is put.
-use Rattle.std.proofs.Common.{◌≡◌, ℕ, zero, suc, ◌+◌, ◌-◌, ◌<◌, ◌≤◌, Bool, true, false, ◌&&◌, ◌||◌, nat_lt, List, [], ◌∷◌, ◌++◌, length, replicate, get_or, refl, sym, ap, subst, ◌∙◌, inl, inr, arith, length-append, Option, Some, None, is_some, if◌then◌else◌}
-use Rattle.std.specs.List.{slice_get}
+use Rattle.std.proofs.Common.{◌≡◌, ℕ, zero, suc, ◌+◌, ◌-◌, ◌<◌, ◌≤◌, Bool, true, false, ◌&&◌, nat_lt, List, [], ◌∷◌, ◌++◌, length, replicate, get_or, refl, sym, ap, ◌∙◌, inl, inr, arith, length-append, Option, None, if◌then◌else◌}
 use Rattle.std.proofs.lemmas.Bool.{cases_lt}
 use Rattle.std.proofs.lemmas.List.{append_assoc, append-nil, get_or-append_right}
 use Rattle.indirect_macs.specs.declared.refs.NodeRef.{NodeRef}
@@ -69,9 +68,12 @@ pub length-nodes_made : (run : Run) (old : Old) (base level : ℕ) (below : Made
 unfolding nodes_made
 length-nodes_made run old base level below zero = ap length (begun_refs run base level below)
 length-nodes_made run old base level below (suc n) =
-    omega (arith, length-nodes_made run old base level below n,
-    length-append (nodes_made run old base level below n).refs
-    (ref_with (base + length (nodes_made run old base level below n).puts) (new_node run old level below (first_at run level + n)) (kept run old level below (first_at run level + n)) ∷ []))
+    omega (
+      arith,
+      length-nodes_made run old base level below n,
+      length-append (nodes_made run old base level below n).refs
+          (ref_with (base + length (nodes_made run old base level below n).puts) (new_node run old level below (first_at run level + n)) (kept run old level below (first_at run level + n)) ∷ []),
+    )
 
 get_or-front : {X : Type 0} (xs ys : List X) (i : ℕ) (d : X) → i < length xs → get_or (xs ++ ys) i d ≡ get_or xs i d
 get_or-front [] ys i d within = absurd (omega (arith, within))
@@ -83,7 +85,7 @@ get_or-last xs x i d is =
     let none : i - length xs ≡ 0 = omega (arith, is) in
     get_or-append_right xs (x ∷ []) (length xs) i d refl (omega (arith, is)) ∙ ap (λ (k : ℕ). get_or (x ∷ []) k d) none
 
-nodes_ref : (run : Run) (old : Old) (base level : ℕ) (below : Made) (i n : ℕ) → i < n
+pub nodes_ref : (run : Run) (old : Old) (base level : ℕ) (below : Made) (i n : ℕ) → i < n
     → get_or (nodes_made run old base level below n).refs i None
     ≡ ref_with (base + length (nodes_made run old base level below i).puts) (new_node run old level below (first_at run level + i)) (kept run old level below (first_at run level + i))
 unfolding nodes_made
@@ -176,3 +178,10 @@ raised_stays run old base (suc level) low =
     let below : nat_lt run.levels (suc level) ≡ false = grind (arith, low) in
     nodes_raised run old base (suc level) (levels_made run old base level) (count_at run (suc level))
     ∙ rw below (raised_stays run old base level (omega (arith, low)))
+
+-- and elsewhere that of the level below
+pub raised_same : (run : Run) (old : Old) (base level : ℕ) → (nat_lt run.levels (suc level) && nat_lt 0 (first_at run (suc level))) ≡ false
+    → (levels_made run old base (suc level)).raised ≡ (levels_made run old base level).raised
+unfolding levels_made begun
+raised_same run old base level low =
+    nodes_raised run old base (suc level) (levels_made run old base level) (count_at run (suc level)) ∙ rw low refl

@@ -1,5 +1,5 @@
 -- What stands in a new node: its entries, where the walk through it goes on.
-use Rattle.std.proofs.Common.{◌≡◌, ℕ, zero, suc, ◌+◌, ◌-◌, ◌*◌, ◌^◌, ◌<◌, ◌≤◌, Bool, true, false, ◌&&◌, ◌||◌, ◌==◌, List, [], ◌∷◌, ◌++◌, length, map, take, get_or, slice_index, refl, sym, ap, subst, ◌∙◌, inl, inr, arith, length-append, length-take-le, Option, Some, None, is_some, is_none, if◌then◌else◌}
+use Rattle.std.proofs.Common.{◌≡◌, ℕ, zero, suc, ◌+◌, ◌*◌, ◌^◌, ◌<◌, ◌≤◌, Bool, true, false, ◌==◌, List, [], ◌∷◌, ◌++◌, length, map, take, get_or, slice_index, refl, sym, ap, subst, ◌∙◌, arith, length-append, length-take-le, Option, Some, None, is_none}
 use Rattle.std.specs.Prelude.{All, IfSome}
 use Rattle.std.specs.List.{list_all, flat_map, slice_get}
 use Rattle.std.specs.Option.{option_map}
@@ -15,14 +15,13 @@ use Rattle.std.proofs.Math.Path.{fun_ext}
 use Rattle.indirect_macs.specs.declared.refs.BlockRef.{BlockRef}
 use Rattle.indirect_macs.specs.declared.refs.NodeRef.{NodeRef}
 use Rattle.indirect_macs.specs.Entries.{block_at, node_at, block_entry, node_entry, block_under_mac, node_under_mac, IsBlockRef, IsNodeRef}
-use Rattle.indirect_macs.specs.Nodes.{slots, node_len, entry_at, node_mac, has_entries, node_passes, mac_of, block_node, ref_node, blocks_of, refs_of}
+use Rattle.indirect_macs.specs.Nodes.{slots, node_len, entry_at, node_mac, has_entries, mac_of, block_node, ref_node, blocks_of, refs_of}
 use Rattle.indirect_macs.specs.Walk.{passed}
 use Rattle.indirect_macs.specs.Trees.{is_empty_node}
-use Rattle.indirect_macs.specs.Runs.{Node, leaf_of, inner_of, is_put, ref_with, puts_with}
+use Rattle.indirect_macs.specs.Runs.{Node, leaf_of, inner_of, ref_with, puts_with}
 use Rattle.indirect_macs.proofs.Reading.{passed_read}
-use Rattle.indirect_macs.proofs.Growth.{passed-grown}
 use Rattle.indirect_macs.proofs.Spelling.{blocks_read, blocks_have_entries, blocks_mac, refs_read, refs_have_entries, refs_mac, length-block_entry, length-node_entry, passes_at}
-use Rattle.indirect_macs.proofs.TreeFold.{block_none, node_none, block_holes, entries_above, above_one}
+use Rattle.indirect_macs.proofs.TreeFold.{node_none, block_holes, entries_above, above_one}
 use Rattle.indirect_macs.proofs.RunMade.{IsFront, IsMade}
 
 -- a node that passes, with these entries, of which not all are holes
@@ -53,7 +52,7 @@ slice_get_put held front more final block is =
     ∙ ap (slice_get (held ++ front ++ block ∷ more)) (sym (length-append held front))
     ∙ slice_get_at (held ++ front) block more
 
-bytes_same : (xs ys : List ℕ) → xs ≡ ys → bytes_eq xs ys ≡ true
+pub bytes_same : (xs ys : List ℕ) → xs ≡ ys → bytes_eq xs ys ≡ true
 bytes_same xs ys is = grind (arith, is, bytes_eq-Decides xs ys)
 
 passed_put : (held front final : List (List ℕ)) (record_size level : ℕ) (block mac : List ℕ) → IsFront (front ++ block ∷ []) final
@@ -112,15 +111,15 @@ length-inner refs whole all =
 
 -- ---- the entries of a put node
 
-leaf_slot : (bytes : List ℕ) (s : ℕ) → s < 32 → block_at (entry_at 1 bytes s) ≡ get_or (blocks_of bytes) s None
+pub leaf_slot : (bytes : List ℕ) (s : ℕ) → s < 32 → block_at (entry_at 1 bytes s) ≡ get_or (blocks_of bytes) s None
 unfolding slots
 leaf_slot bytes s within = sym (get_or-map-range_with_len (λ slot. block_at (entry_at 1 bytes slot)) 0 32 s s None within (omega arith))
 
-inner_slot : (bytes : List ℕ) (s : ℕ) → s < 32 → node_at (entry_at 2 bytes s) ≡ get_or (refs_of bytes) s None
+pub inner_slot : (bytes : List ℕ) (s : ℕ) → s < 32 → node_at (entry_at 2 bytes s) ≡ get_or (refs_of bytes) s None
 unfolding slots
 inner_slot bytes s within = sym (get_or-map-range_with_len (λ slot. node_at (entry_at 2 bytes slot)) 0 32 s s None within (omega arith))
 
-inner_holes : (below : ℕ) (bytes : List ℕ) → list_all is_none (refs_of bytes) ≡ is_empty_node (below + 2) bytes
+pub inner_holes : (below : ℕ) (bytes : List ℕ) → list_all is_none (refs_of bytes) ≡ is_empty_node (below + 2) bytes
 unfolding is_empty_node
 inner_holes below bytes =
     list_all-map is_none (λ slot. node_at (entry_at 2 bytes slot)) slots

@@ -13,11 +13,11 @@ use Rattle.std.proofs.lemmas.Nat.{div-mul-add, mod-mul-add, mod_below, div-add-m
 use Rattle.indirect_macs.specs.declared.refs.BlockRef.{BlockRef}
 use Rattle.indirect_macs.specs.declared.refs.NodeRef.{NodeRef}
 use Rattle.indirect_macs.specs.declared.refs.MacError.{MacError}
-use Rattle.indirect_macs.specs.Entries.{block_at, node_at, block_under_mac, node_under_mac, is_entry, entry_len, without_address}
+use Rattle.indirect_macs.specs.Entries.{block_at, node_at, block_under_mac, node_under_mac, is_entry, without_address}
 use Rattle.indirect_macs.specs.Nodes.{slots, node_len, entry_at, node_mac, has_entries, node_passes, mac_of, blocks_of}
 use Rattle.indirect_macs.specs.Walk.{place_of, slot_of, passed, walk, next_block, next_node, fails_at, goes_on}
 use Rattle.indirect_macs.specs.Places.{Place, place_at, next_ref}
-use Rattle.indirect_macs.specs.Fold.{filled_up, group_mac, fold_mac}
+use Rattle.indirect_macs.specs.Fold.{group_mac, fold_mac}
 use Rattle.indirect_macs.specs.Trees.{HoldsBytes, LeadsTo, HasNoEmptyNodes, is_empty_node}
 use Rattle.indirect_macs.proofs.Spelling.{same_pieces, and_both, each_passed, bytes_of_part, part_of, block_entry-at, node_entry-at, block_without_address, node_without_address, entries_alike, macs_alike}
 use Rattle.indirect_macs.proofs.FirstPlace.{passed_held, no_place}
@@ -40,7 +40,7 @@ test_true (Some block) test bytes is = by_test (test block) refl is
     by_test true passes same = let e : block ≡ bytes = cc in subst (λ (b : List ℕ). test b ≡ true) e passes
     by_test false fails same = absurd (cc)
 
-same_bytes : (xs ys : List ℕ) → bytes_eq xs ys ≡ true → xs ≡ ys
+pub same_bytes : (xs ys : List ℕ) → bytes_eq xs ys ≡ true → xs ≡ ys
 same_bytes xs ys is = grind (arith, is, bytes_eq-Decides xs ys)
 
 pub passes_from : (held : List (List ℕ)) (record_size level : ℕ) (node : NodeRef) (bytes : List ℕ)
@@ -259,7 +259,7 @@ pub record Covers (held : List (List ℕ)) (record_size : ℕ) (f : ℕ → Opti
 pub ok_same : {X : Type 0} (x y : X) → (let found : Result X MacError = Ok x in found) ≡ Ok y → x ≡ y
 ok_same x y is = cc
 
-covers_none : (held : List (List ℕ)) (record_size : ℕ) (f : ℕ → Option BlockRef) (below j s : ℕ) → s < 32 → Covers held record_size f (suc below) j None
+pub covers_none : (held : List (List ℕ)) (record_size : ℕ) (f : ℕ → Option BlockRef) (below j s : ℕ) → s < 32 → Covers held record_size f (suc below) j None
     → Covers held record_size f below (32 * j + s) None
 covers_none held record_size f below j s within covers =
     record {
@@ -268,7 +268,7 @@ covers_none held record_size f below j s within covers =
       filled = λ index depth place bytes at is there. let none = no_place held index below depth in absurd (cc);
     }
 
-covers_child : (held : List (List ℕ)) (record_size : ℕ) (f : ℕ → Option BlockRef) (below j s : ℕ) (node : NodeRef) (bytes : List ℕ) → s < 32
+pub covers_child : (held : List (List ℕ)) (record_size : ℕ) (f : ℕ → Option BlockRef) (below j s : ℕ) (node : NodeRef) (bytes : List ℕ) → s < 32
     → passed held record_size (below + 2) node ≡ Some bytes → Covers held record_size f (suc below) j (Some node)
     → Covers held record_size f below (32 * j + s) (node_at (entry_at (below + 2) bytes s))
 covers_child held record_size f below j s node bytes within passes covers =
@@ -282,7 +282,7 @@ covers_child held record_size f below j s node bytes within passes covers =
           ∙ ap (λ (slot : ℕ). place_at held index below (node_at (entry_at (below + 2) bytes slot)) depth) (slot_above below index j s within at) ∙ is) there;
     }
 
-top_filled : (held : List (List ℕ)) (record_size : ℕ) (f : ℕ → Option BlockRef) (below j : ℕ) (node : NodeRef) (bytes : List ℕ)
+pub top_filled : (held : List (List ℕ)) (record_size : ℕ) (f : ℕ → Option BlockRef) (below j : ℕ) (node : NodeRef) (bytes : List ℕ)
     → Covers held record_size f below j (Some node) → slice_get held node.addr ≡ Some bytes → is_empty_node (below + 1) bytes ≡ false
 unfolding place_at
 top_filled held record_size f zero j node bytes covers there =

@@ -155,7 +155,7 @@ new_node run old level below index =
 unfoldable pub kept : Run → Old → (level : ℕ) → Made → (index : ℕ) → Option NodeRef
 kept run old level below index =
     if (if level == 1 then pointwise (option_eq same_block) (entries_at old.block index) (entries_at (target run old) index)
-        else pointwise (option_eq same_node) (entries_at (old.node (level - 1)) index) (entries_at (new_ref run old (level - 1) below) index))
+    else pointwise (option_eq same_node) (entries_at (old.node (level - 1)) index) (entries_at (new_ref run old (level - 1) below) index))
     then old.node level index else None
 
 -- a node is put behind what was put, unless all its entries are holes or the old one is kept

@@ -25,7 +25,10 @@ pub use laws::{
 };
 pub use replace::replace_run;
 pub use refs::{BlockRef, MacError, NodeRef, ObjTree};
-pub use run_laws::{runs_touch_few_nodes, tops_are_folds};
+pub use run_laws::{
+    runs_by_hand, runs_change_their_blocks_alone, runs_keep_bytes, runs_keep_older_trees,
+    runs_keep_trees, runs_put_only_changes, runs_touch_few_nodes, tops_are_folds,
+};
 pub use walk::lookup;
 
 #[cfg(test)]

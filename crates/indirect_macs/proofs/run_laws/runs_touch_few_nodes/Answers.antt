@@ -1,4 +1,3 @@
-use Rattle.indirect_macs.proofs.RunNodes.{Entries}
 use Rattle.indirect_macs.proofs.RunBounds.{touched_few, few_puts, puts_where_levels_stay, puts_where_levels_grow}
 use Rattle.indirect_macs.proofs.run_laws.runs_touch_few_nodes.Goals as goal
 
