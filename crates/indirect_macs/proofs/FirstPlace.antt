@@ -11,7 +11,7 @@ use Rattle.indirect_macs.specs.Walk.{passed, fails_at, next_block, next_node, wa
 use Rattle.indirect_macs.specs.Places.{Place, next_ref, place_at, block_in}
 
 -- what passes is what is held
-pass_found : (found : Option (List ℕ)) (test : List ℕ → Bool) (bytes : List ℕ)
+pub pass_found : (found : Option (List ℕ)) (test : List ℕ → Bool) (bytes : List ℕ)
     → option_and_then (λ bytes. if test bytes then Some bytes else None) found ≡ Some bytes → found ≡ Some bytes
 pass_found None test bytes is = cc
 pass_found (Some held) test bytes is = by_test (test held) is
@@ -20,7 +20,7 @@ pass_found (Some held) test bytes is = by_test (test held) is
     by_test true same = same
     by_test false same = absurd (cc)
 
-passed_held : (held : List (List ℕ)) (record_size level : ℕ) (node : NodeRef) (bytes : List ℕ) → passed held record_size level node ≡ Some bytes
+pub passed_held : (held : List (List ℕ)) (record_size level : ℕ) (node : NodeRef) (bytes : List ℕ) → passed held record_size level node ≡ Some bytes
     → slice_get held node.addr ≡ Some bytes
 unfolding passed
 passed_held held record_size level node bytes is =
@@ -32,7 +32,7 @@ value_of None is = absurd (cc)
 value_of (Some x) is = (x, refl)
 
 -- below a hole there are no places
-no_place : (held : List (List ℕ)) (index below depth : ℕ) → place_at held index below None depth ≡ None
+pub no_place : (held : List (List ℕ)) (index below depth : ℕ) → place_at held index below None depth ≡ None
 unfolding place_at next_ref
 no_place held index below zero = refl
 no_place held index zero (suc depth) = refl

@@ -46,7 +46,7 @@ pieces_whole width (suc n) bytes =
     ∙ sym (take-add (width * n) width bytes) ∙ ap (λ (k : ℕ). take k bytes) size
 
 -- pieces that are the same
-same_pieces : (f g : ℕ → List ℕ) (n : ℕ) → ((i : ℕ) → i < n → f i ≡ g i) → flat_map f (range_with_len 0 n) ≡ flat_map g (range_with_len 0 n)
+pub same_pieces : (f g : ℕ → List ℕ) (n : ℕ) → ((i : ℕ) → i < n → f i ≡ g i) → flat_map f (range_with_len 0 n) ≡ flat_map g (range_with_len 0 n)
 same_pieces f g zero same = refl
 same_pieces f g (suc n) same =
     let next : suc n ≡ n + 1 = omega arith in
@@ -55,29 +55,29 @@ same_pieces f g (suc n) same =
     ∙ rw (rest, same n (omega arith)) (sym (flat_more g n)) ∙ ap (λ (k : ℕ). flat_map g (range_with_len 0 k)) (sym next)
 
 -- a test that each place passes
-each_passes : (p : ℕ → Bool) (n : ℕ) → ((i : ℕ) → i < n → p i ≡ true) → list_all p (range_with_len 0 n) ≡ true
+pub each_passes : (p : ℕ → Bool) (n : ℕ) → ((i : ℕ) → i < n → p i ≡ true) → list_all p (range_with_len 0 n) ≡ true
 each_passes p zero all = refl
 each_passes p (suc n) all =
     let next : suc n ≡ n + 1 = omega arith in
     ap (λ (k : ℕ). list_all p (range_with_len 0 k)) next
     ∙ all_more p n (each_passes p n (λ i within. all i (omega (arith, within)))) (all n (omega arith))
 
-and_both : (a b : Bool) → (a && b) ≡ true → (a ≡ true) × (b ≡ true)
+pub and_both : (a b : Bool) → (a && b) ≡ true → (a ≡ true) × (b ≡ true)
 and_both true b h = (refl, h)
 and_both false b h = cc
 
-passes_at : {X : Type 0} (p : X → Bool) (xs : List X) (d : X) (i : ℕ) → i < length xs → list_all p xs ≡ true → p (get_or xs i d) ≡ true
+pub passes_at : {X : Type 0} (p : X → Bool) (xs : List X) (d : X) (i : ℕ) → i < length xs → list_all p xs ≡ true → p (get_or xs i d) ≡ true
 passes_at p [] d i within all = absurd (omega (arith, within))
 passes_at p (x ∷ xs) d zero within all = (and_both (p x) (list_all p xs) all).0
 passes_at p (x ∷ xs) d (suc i) within all = passes_at p xs d i (omega (arith, within)) (and_both (p x) (list_all p xs) all).1
 
-each_passed : (p : ℕ → Bool) (n i : ℕ) → i < n → list_all p (range_with_len 0 n) ≡ true → p i ≡ true
+pub each_passed : (p : ℕ → Bool) (n i : ℕ) → i < n → list_all p (range_with_len 0 n) ≡ true → p i ≡ true
 each_passed p n i within all =
     let place : get_or (range_with_len 0 n) i 0 ≡ i = get_or-range_with_len 0 n i 0 within ∙ omega arith in
     rw place at (passes_at p (range_with_len 0 n) 0 i (omega (arith, within, length-range_with_len 0 n)) all)
 
 -- bytes of a part are bytes
-bytes_of_part : (start n : ℕ) (bytes : List ℕ) → ((i : ℕ) → slice_index bytes i < 256) → (i : ℕ) → slice_index (take n (drop start bytes)) i < 256
+pub bytes_of_part : (start n : ℕ) (bytes : List ℕ) → ((i : ℕ) → slice_index bytes i < 256) → (i : ℕ) → slice_index (take n (drop start bytes)) i < 256
 bytes_of_part start n bytes all i =
     elim (cases_lt i n) [
       | inl lt ↦ rw (get_or-take n (drop start bytes) i 0 lt, get_or-drop start bytes i 0) (all (start + i))
@@ -140,7 +140,7 @@ field n start e within bytes =
     let size : length (take n (drop start e)) ≡ n = length-take-le n (drop start e) (omega (arith, within, length-drop start e)) in
     rw size at (little_endian_bytes-value (take n (drop start e)) (bytes_of_part start n e bytes))
 
-block_entry-at : (record_size : ℕ) (e : List ℕ) → length e ≡ 49 → ((i : ℕ) → slice_index e i < 256) → is_entry 1 record_size e ≡ true
+pub block_entry-at : (record_size : ℕ) (e : List ℕ) → length e ≡ 49 → ((i : ℕ) → slice_index e i < 256) → is_entry 1 record_size e ≡ true
     → block_entry (block_at e) ≡ e
 unfolding is_entry block_at
 block_entry-at record_size e whole bytes entry = by_zeros (list_all (λ byte. byte == 0) e) refl
@@ -161,7 +161,7 @@ block_entry-at record_size e whole bytes entry = by_zeros (list_all (λ byte. by
         (ap (λ (front : List ℕ). front ++ take 8 (drop 5 e) ++ take 8 (drop 13 e) ++ take 12 (drop 21 e) ++ take 16 (drop 33 e)) (front_of 4 e (omega (arith, whole)) tag)
         ∙ parts)
 
-node_entry-at : (record_size : ℕ) (e : List ℕ) → length e ≡ 25 → ((i : ℕ) → slice_index e i < 256) → is_entry 2 record_size e ≡ true
+pub node_entry-at : (record_size : ℕ) (e : List ℕ) → length e ≡ 25 → ((i : ℕ) → slice_index e i < 256) → is_entry 2 record_size e ≡ true
     → node_entry (node_at e) ≡ e
 unfolding is_entry node_at
 node_entry-at record_size e whole bytes entry = by_zeros (list_all (λ byte. byte == 0) e) refl
@@ -212,23 +212,23 @@ unfolding is_entry
 is_entry-node record_size None = refl
 is_entry-node record_size (Some r) = refl
 
-block_without_address : (o : Option BlockRef) → without_address 1 (block_entry o) ≡ block_under_mac o
+pub block_without_address : (o : Option BlockRef) → without_address 1 (block_entry o) ≡ block_under_mac o
 unfolding little_endian_bytes
 block_without_address None = refl
 block_without_address (Some r) = refl
 
-node_without_address : (o : Option NodeRef) → without_address 2 (node_entry o) ≡ node_under_mac (option_map (λ r. r.mac) o)
+pub node_without_address : (o : Option NodeRef) → without_address 2 (node_entry o) ≡ node_under_mac (option_map (λ r. r.mac) o)
 unfolding little_endian_bytes
 node_without_address None = refl
 node_without_address (Some r) = refl
 
-length-block_entry : (record_size : ℕ) (o : Option BlockRef) → IfSome o (IsBlockRef record_size) → length (block_entry o) ≡ 49
+pub length-block_entry : (record_size : ℕ) (o : Option BlockRef) → IfSome o (IsBlockRef record_size) → length (block_entry o) ≡ 49
 unfolding little_endian_bytes
 length-block_entry record_size None is = refl
 length-block_entry record_size (Some r) is =
     omega (arith, length-append (r.salt ++ r.iv) r.mac, length-append r.salt r.iv, is.salt, is.iv, is.mac)
 
-length-node_entry : (o : Option NodeRef) → IfSome o IsNodeRef → length (node_entry o) ≡ 25
+pub length-node_entry : (o : Option NodeRef) → IfSome o IsNodeRef → length (node_entry o) ≡ 25
 unfolding little_endian_bytes
 length-node_entry None is = refl
 length-node_entry (Some r) is = omega (arith, is.mac)
@@ -250,7 +250,7 @@ blocks_have_entries record_size refs whole all =
     (All-weaker _ (λ o. length (block_entry o) ≡ 49) (length-block_entry record_size) refs all)
     (All-weaker _ (λ o. is_entry 1 record_size (block_entry o) ≡ true) (is_entry-block record_size) refs all)
 
-part_of : (width slot : ℕ) (node : List ℕ) → length node ≡ width * 32 → slot < 32 → length (take width (drop (width * slot) node)) ≡ width
+pub part_of : (width slot : ℕ) (node : List ℕ) → length node ≡ width * 32 → slot < 32 → length (take width (drop (width * slot) node)) ≡ width
 part_of width slot node whole within =
     let enough : width * (slot + 1) ≤ width * 32 = mul-le-mul_left width (omega (arith, within)) in
     let split : width * (slot + 1) ≡ width * slot + width = omega arith in
@@ -279,13 +279,13 @@ refs_read refs whole all =
     (All-weaker _ (λ o. node_at (node_entry o) ≡ o) node_at-entry refs all)
 
 -- all levels above 1 have the same entries
-entries_alike : (level record_size : ℕ) (node : List ℕ) → 2 ≤ level → has_entries level record_size node ≡ has_entries 2 record_size node
+pub entries_alike : (level record_size : ℕ) (node : List ℕ) → 2 ≤ level → has_entries level record_size node ≡ has_entries 2 record_size node
 unfolding has_entries is_entry
 entries_alike level record_size node above =
     let other : (level == 1) ≡ false = ne_eqb level 1 (λ e. omega (arith, e, above)) in
     simp other
 
-macs_alike : (level : ℕ) (node : List ℕ) → 2 ≤ level
+pub macs_alike : (level : ℕ) (node : List ℕ) → 2 ≤ level
     → node_mac level node ≡ mac_of level (flat_map (λ slot. without_address 2 (entry_at 2 node slot)) slots)
 unfolding node_mac
 macs_alike level node above =

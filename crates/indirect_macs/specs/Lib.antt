@@ -4,3 +4,8 @@ pub mod Walk
 pub mod Places
 pub mod Calls
 pub mod Fold
+pub mod Runs
+pub mod Replaced
+pub mod RunFields
+pub mod Steps
+pub mod Trees

@@ -12,7 +12,7 @@ use sha2::{Digest, Sha512};
 use shelf_store::NoMemory;
 use std::alloc::Global;
 
-fn are_holes<T>(entries: &[Option<T>]) -> bool
+pub fn are_holes<T>(entries: &[Option<T>]) -> bool
     ensures { result ≡ list_all is_none entries.now }
 {
     entries.iter().all(|entry| entry.is_none())
@@ -38,7 +38,7 @@ fn filled_nodes(group: &[Option<[u8; 16]>]) -> [Option<[u8; 16]>; 32]
 }
 
 // The MAC of the node of level 1 over these blocks.
-fn blocks_mac(entries: &[Option<BlockRef>]) -> [u8; 16]
+pub fn blocks_mac(entries: &[Option<BlockRef>]) -> [u8; 16]
     ensures { result ≡ mac_of 1 (flat_map block_under_mac entries.now) }
 {
     let mut hasher = Sha512::new();

@@ -1,3 +1,9 @@
+// Trees, the references in them, and why they can't be read or changed.
+ghost use Rattle.std.specs.Prelude.{◌≡◌};
+ghost use Rattle.indirect_macs.specs.declared.refs.MacError.TheVariants as mac_error;
+
+use std::alloc::AllocError;
+
 /// Where a sealed block is, and what opens it.
 #[derive(Clone, Copy, Debug, PartialEq, Eq)]
 pub struct BlockRef {
@@ -38,4 +44,12 @@ pub enum MacError {
     Full,
     /// Memory ran out.
     NoMemory,
+}
+
+impl From<AllocError> for MacError {
+    ghost from_gives = { λ _ error. error ≡ mac_error.NoMemory };
+
+    fn from(_: AllocError) -> Self {
+        MacError::NoMemory
+    }
 }

@@ -14,7 +14,7 @@ use shelf_store::{Failed, Shelf};
 const ENTRY_BITS: u32 = 5;
 
 // The index of the place of this level that covers a block.
-fn place_of(level: u8, index: u32) -> u32
+pub fn place_of(level: u8, index: u32) -> u32
     requires { level ≤ 5 }
     ensures { result ≡ place_of level index }
 {
@@ -65,7 +65,7 @@ fn read<B: Shelf>(shelf: &mut B, addr: u64, out: &mut [u8]) -> Result<(), MacErr
 
 // Reads the node that a reference names into `out`, and tests it. A reference that names no block of
 // a node's size fails without a call of the shelf.
-fn read_node<B: Shelf>(
+pub fn read_node<B: Shelf>(
     shelf: &mut B,
     node: &NodeRef,
     level: u8,

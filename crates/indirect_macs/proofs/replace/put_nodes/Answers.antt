@@ -1,0 +1,22 @@
+use Rattle.std.proofs.Common.{◌≡◌, ℕ, ◌+◌, ◌-◌, ◌*◌, ◌^◌, ◌<◌, ◌≤◌, [], length, map, take, drop, refl, sym, ap, ◌∙◌, subst, arith, Ok, Err, None, length-take, length-drop}
+use Rattle.indirect_macs.specs.RunFields.{run_of}
+use Rattle.indirect_macs.specs.Runs.{first_at, count_at, or_hole}
+use Rattle.indirect_macs.proofs.RunSpans.{count_small, last_at_small, touched_last, entries_fit}
+use Rattle.indirect_macs.proofs.Spans.{entries_of_range}
+use Rattle.indirect_macs.proofs.RunPutting.{leaves_none, leaves_all, leaves_stop, nodes_none, nodes_step, nodes_stop, old_node, none_made, map_part}
+use Rattle.indirect_macs.proofs.replace.put_nodes.Goals as goal
+
+pub overflow_cast-i : goal.overflow_cast-i
+overflow_cast-i g c = omega (arith, c.nodes-test.true, c.requires.count, count_small (run_of c.args.run.now) c.args.level (omega arith) (omega arith))
+
+pub overflow_add-first : goal.overflow_add-first
+overflow_add-first g c =
+    omega (arith, c.first_at-first.ensures, touched_last (run_of c.args.run.now) c.args.level c.nodes.i (omega (arith, c.nodes-test.true, c.requires.count)), last_at_small (run_of c.args.run.now) c.args.level (omega arith) (omega arith))
+
+pub add_inner-requires-clause-fits : goal.add_inner-requires-clause-fits
+add_inner-requires-clause-fits g c =
+    rw c.first_at-first.ensures (entries_fit (run_of c.args.run.now) c.args.level c.nodes.i (omega arith) (omega arith) (omega arith) (omega (arith, c.nodes-test.true, c.requires.count)))
+
+pub nodes-init : goal.nodes-init
+nodes-init g c = λ before reads made start knows refs raised had.
+    rw c.new-refs.ensures.items (nodes_none (run_of c.args.run.now) before _ c.args.level reads made start _ had)
