@@ -158,3 +158,18 @@ leaves_stop X Y run old base reads n index stop start new at few puts =
 
 pub map_part : {X Y : Type 0} (f : X → Y) (n k : ℕ) (xs : List X) → map f (take n (drop k xs)) ≡ take n (drop k (map f xs))
 map_part f n k xs = sym (take-map f n (drop k xs)) ∙ ap (take n) (sym (drop-map f k xs))
+
+pub leaf_added : (run : Run) (old : Old) (base index : ℕ) (one other made : Made)
+    → added base (new_node run old 1 one index) (kept run old 1 one index) made ≡ added base (new_node run old 1 other index) (kept run old 1 other index) made
+unfolding new_node kept
+leaf_added run old base index one other made = refl
+
+pub puts_any : (X Y : Type 0) (reads : ℕ) (whole : List (List ℕ)) (stop : MacError) (start new : ShelfState) → Puts {X = X} reads whole (Err stop) start new → Puts {X = Y} reads whole (Err stop) start new
+puts_any X Y reads whole stop start new puts = put_front_of {X = X} {Y = Y} reads whole whole stop start new (whole_front whole) puts
+
+pub level_stop : (X Y : Type 0) (run : Run) (old : Old) (base level reads count : ℕ) (below : Made) (stop : MacError) (start new : ShelfState)
+    → Puts {X = X} reads (begun run base level below).puts (Err stop) start new → Puts {X = Y} reads (nodes_made run old base level below count).puts (Err stop) start new
+unfolding nodes_made
+level_stop X Y run old base level reads count below stop start new puts =
+    put_front_of {X = X} {Y = Y} reads (begun run base level below).puts (nodes_made run old base level below count).puts stop start new
+    (nodes_front run old base level below 0 count (omega arith)) puts

@@ -370,7 +370,9 @@ fn replace_levels<B: Shelf>(
     requires count { length old.now ≡ count_at (run_of run.now) level }
     ensures told { IfSome (B.told shelf.old).held (λ held.
         IsRange (found_at held run.now.block (run_of run.now) level) (first_at (run_of run.now) level) (length old.now) old.now
-        → LevelsRun (λ made. made.refs.items) (λ made. made.raised) held run.now.block (run_of run.now) level result (B.told shelf.old) (B.told shelf.new)) }
+        → LevelsRun (λ made. made.refs.items) (λ made. made.raised) held run.now.block (run_of run.now) (touched_below (run_of run.now) (min level run.now.tree.levels))
+        (levels_made (run_of run.now) (old_of held run.now.block (run_of run.now)) (length (B.told shelf.old).sizes) (min level (levels_for run.now.blocks)))
+        result (B.told shelf.old) (B.told shelf.new)) }
     ensures changes { Changes (touched_below (run_of run.now) (min level run.now.tree.levels))
         (touched_below (run_of run.now) (min level (levels_for run.now.blocks)) + raised_below (run_of run.now) (min level (levels_for run.now.blocks)))
         result (B.told shelf.old) (B.told shelf.new) }
