@@ -78,7 +78,7 @@ has_put reads whole x start new put =
       ended = refl;
     }
 
-sizes_kept : (calls : ℕ) (s : ShelfState) → (after_calls calls s).sizes ≡ s.sizes
+pub sizes_kept : (calls : ℕ) (s : ShelfState) → (after_calls calls s).sizes ≡ s.sizes
 sizes_kept zero s = refl
 sizes_kept (suc calls) s = sizes_kept calls (counted s)
 
@@ -135,7 +135,7 @@ pub same_puts : {X Y : Type 0} (reads : ℕ) (whole : List (List ℕ)) (x : X) (
 same_puts reads whole x y start new had =
     record { calls = had.calls; put = had.put; rest = had.rest; parts = had.parts; bound = had.bound; after = had.after; fault = had.fault; ended = had.ended }
 
-too_much_front : (rest more : List (List ℕ)) (s : ShelfState) → IsTooMuch rest s → IsTooMuch (rest ++ more) s
+pub too_much_front : (rest more : List (List ℕ)) (s : ShelfState) → IsTooMuch rest s → IsTooMuch (rest ++ more) s
 too_much_front [] more s much = absurd much
 too_much_front (b ∷ rest) more s much = much
 

@@ -313,7 +313,7 @@ pub record AreBlocks (block : ℕ) (run : Run) (i : ℕ) (old : List (Result (Op
   pub told : IfSome start.held (λ held. IsRange (found_at held block run 1) (first_at run 1) (length old) old
       → IsRange (old_of held block run).block (32 * first_at run 1) (32 * i) blocks × AllWalk held block run (first_at run 1) i)
 
-held_same : (n : ℕ) (fault : Bool) (s t : ShelfState) → Reads n fault s t → t.held ≡ s.held
+pub held_same : (n : ℕ) (fault : Bool) (s t : ShelfState) → Reads n fault s t → t.held ≡ s.held
 held_same n fault s t reads = ap (λ (state : ShelfState). state.held) reads.after ∙ held_kept reads.calls s
 
 -- one more node

@@ -21,7 +21,7 @@ map_split : {X : Type 0} (f : ℕ → X) (a n m : ℕ) → map f (range_with_len
 map_split f a n m = ap (map f) (range_split a n m) ∙ map-append f (range_with_len a n) (range_with_len (a + n) m)
 
 -- the entries of a node are a range
-moved : {X : Type 0} (f : ℕ → X) (a b n : ℕ) → map (λ k. f (a + k)) (range_with_len b n) ≡ map f (range_with_len (a + b) n)
+pub moved : {X : Type 0} (f : ℕ → X) (a b n : ℕ) → map (λ k. f (a + k)) (range_with_len b n) ≡ map f (range_with_len (a + b) n)
 moved f a b zero = refl
 moved f a b (suc n) =
     let next : a + (b + 1) ≡ a + b + 1 = omega arith in

@@ -158,6 +158,7 @@ fn found_below<B: Shelf>(
     requires fits { index * 32 ^ level < 2 ^ 32 }
     ensures reads { Reads 1 (is_fault result) (B.told shelf.old) (B.told shelf.new) }
     ensures hole { run.now.tree.levels < level → B.told shelf.new ≡ B.told shelf.old }
+    ensures quiet { run.now.tree.levels < level → is_fault result ≡ false }
     ensures stops { IfErr result IsStop }
     ensures told { IfSome (B.told shelf.old).held (λ held. found.now ≡ found_at held run.now.block (run_of run.now) level index
         → IfOk result (λ found. found ≡ entries_at (found_at held run.now.block (run_of run.now) (level - 1)) index)) }
@@ -195,6 +196,7 @@ fn add_children<B: Shelf>(
     requires fits { index * 32 ^ level < 2 ^ 32 }
     ensures reads { Reads 1 (is_fault result) (B.told shelf.old) (B.told shelf.new) }
     ensures hole { run.now.tree.levels < level → B.told shelf.new ≡ B.told shelf.old }
+    ensures quiet { run.now.tree.levels < level → is_fault result ≡ false }
     ensures stops { IfErr result IsStop }
     ensures size { IfOk result (λ _. length children.new.items ≡ length children.old.items + 32) }
     ensures told { IfSome (B.told shelf.old).held (λ held. found.now ≡ found_at held run.now.block (run_of run.now) level index
@@ -219,6 +221,7 @@ pub fn read_children<B: Shelf>(
     requires count { length old.now ≡ count_at (run_of run.now) level }
     ensures reads { Reads (length old.now) (is_fault result) (B.told shelf.old) (B.told shelf.new) }
     ensures hole { run.now.tree.levels < level → B.told shelf.new ≡ B.told shelf.old }
+    ensures quiet { run.now.tree.levels < level → is_fault result ≡ false }
     ensures stops { IfErr result IsStop }
     ensures size { IfOk result (λ children. length children.items ≡ 32 * length old.now) }
     ensures told { IfSome (B.told shelf.old).held (λ held.
