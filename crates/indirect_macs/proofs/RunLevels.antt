@@ -1,5 +1,5 @@
 -- The levels of a run one after another, over plain variables.
-use Rattle.std.proofs.Common.{◌≡◌, ℕ, zero, suc, ◌+◌, ◌-◌, ◌*◌, ◌^◌, ◌<◌, ◌≤◌, Bool, true, false, ◌==◌, ◌&&◌, nat_lt, nat_le, get_or, List, [], ◌∷◌, ◌++◌, length, map, refl, sym, ap, subst, ◌∙◌, inl, inr, arith, Option, Some, None, Result, Ok, Err, if◌then◌else◌}
+use Rattle.std.proofs.Common.{◌≡◌, ℕ, zero, suc, ◌+◌, ◌-◌, ◌*◌, ◌/◌, ◌^◌, ◌<◌, ◌≤◌, Bool, true, false, ◌==◌, ◌&&◌, nat_lt, nat_le, get_or, List, [], ◌∷◌, ◌++◌, length, map, refl, sym, ap, subst, ◌∙◌, inl, inr, arith, Option, Some, None, Result, Ok, Err, if◌then◌else◌}
 use Rattle.std.specs.Prelude.{IfOk, IfErr, IfSome, min, ⊤}
 use Rattle.std.specs.List.{range_with_len}
 use Rattle.std.specs.Option.{option_map}
@@ -11,13 +11,19 @@ use Rattle.indirect_macs.specs.declared.refs.NodeRef.{NodeRef}
 use Rattle.indirect_macs.specs.declared.refs.MacError.{MacError}
 use Rattle.indirect_macs.specs.declared.refs.MacError.TheVariants.{MacFailed, ShelfFault, Full, NoMemory}
 use Rattle.indirect_macs.specs.Calls.{fails_within, is_fault}
-use Rattle.indirect_macs.specs.Replaced.{Changes, IsTooMuch, with_blocks}
-use Rattle.indirect_macs.specs.Runs.{Run, Old, Made, old_of, or_hole, found_at, first_at, count_at, levels_for, levels_made, nodes_made, touched_below, raised_below}
+use Rattle.indirect_macs.specs.Replaced.{Changes, Ended, IsTooMuch, Replaced, with_blocks}
+use Rattle.indirect_macs.specs.Runs.{Run, Old, Made, FirstFails, IsTouched, Passes, old_of, or_hole, found_at, first_at, last_at, count_at, first_block, last_block, puts_of, tree_of, levels_for, levels_made, nodes_made, touched_below, raised_below}
 use Rattle.indirect_macs.specs.Steps.{AllWalk, FirstOf, HasPut, IsRange, IsStop, Knows, LevelsEnded, LevelsPut, LevelsRun, Puts, PutEnded, Reads, StopsAt}
 use Rattle.indirect_macs.proofs.Putting.{has_put, put_all, same_fault, sizes_kept, too_much_front}
 use Rattle.indirect_macs.proofs.Reading.{both}
-use Rattle.indirect_macs.proofs.RunMade.{IsFront, whole_front, levels_front}
-use Rattle.indirect_macs.proofs.RunReading.{held_same, for_each_held}
+use Rattle.indirect_macs.proofs.RunMade.{IsFront, whole_front, levels_front, length-nodes_made}
+use Rattle.indirect_macs.proofs.RunBounds.{nodes_more, levels_more}
+use Rattle.indirect_macs.proofs.RunSpans.{order_at, count_is, first_under_last}
+use Rattle.indirect_macs.proofs.RunFound.{found_above, found_top}
+use Rattle.std.proofs.Math.Pow.{pow_mono}
+use Rattle.std.proofs.Math.Nat.{div-eq_of_lt}
+use Rattle.indirect_macs.specs.declared.refs.ObjTree.{ObjTree}
+use Rattle.indirect_macs.proofs.RunReading.{held_same, for_each_held, reads_none, if_ok}
 use Rattle.std.proofs.lemmas.Option.{IfSome_then}
 use Rattle.std.proofs.lemmas.List.{length-map}
 use Rattle.std.proofs.lemmas.List.FromFn.{fill_by_all}
@@ -395,8 +401,10 @@ list_knows run level from old children above size =
     let own : (level == level) ≡ true = eq-eqb level level refl in
     let other : (level - 1 == level) ≡ false = ne_eqb (level - 1) level (λ e. omega (arith, e, above)) in
     record {
-      nodes = rw own (self_range (map g old) from (length old) None (sym (length-map old g)));
-      children = rw other (self_range (map g children) (32 * from) (32 * length old) None (sym size ∙ sym (length-map children g)));
+      nodes = subst (λ (b : Bool). IsRange (λ j. if b then get_or (map g old) (j - from) None else get_or (map g children) (j - 32 * from) None) from (length old) (map g old))
+          (sym own) (self_range (map g old) from (length old) None (sym (length-map old g)));
+      children = subst (λ (b : Bool). IsRange (λ j. if b then get_or (map g old) (j - from) None else get_or (map g children) (j - 32 * from) None) (32 * from) (32 * length old) (map g children))
+          (sym other) (self_range (map g children) (32 * from) (32 * length old) None (sym size ∙ sym (length-map children g)));
     }
 
 -- ---- bounds of the nodes that are put
@@ -419,3 +427,194 @@ bound_grows run level above =
       | inl high ↦ rw (same_level run level high) (omega arith)
       | inr low ↦ omega (arith, bound_level run level above low)
     ]
+
+length_levels : (run : Run) (old : Old) (base k : ℕ) → length (levels_made run old base (suc k)).refs ≡ count_at run (suc k)
+unfolding levels_made
+length_levels run old base k = length-nodes_made run old base (suc k) (levels_made run old base k) (count_at run (suc k))
+
+pub leaf_changes : (X : Type 0) (refs : X → List (Option NodeRef)) (raised : X → Option NodeRef) (run : Run) (level n : ℕ) (old : List (Result (Option NodeRef) MacError)) (blocks : List (Option BlockRef)) (result : Result X MacError) (s m t : ShelfState)
+    → level ≡ 1 → 1 ≤ run.levels → n ≡ length old → length old ≡ count_at run level → length blocks ≡ 32 * length old → Reads n false s m
+    → ((before : Old) (reads : ℕ) (start : ShelfState) → IsRange (before.node 1) (first_at run 1) (length old) (map or_hole old)
+    → IsRange before.block (32 * first_at run 1) (32 * length old) blocks → HasPut reads [] start m
+    → LevelsPut refs raised reads (levels_made run before (length start.sizes) 1) result start t)
+    → Changes (touched_below run (min level run.levels)) (touched_below run (min level (levels_for run.blocks)) + raised_below run (min level (levels_for run.blocks))) result s t
+    × IfOk result (λ x. length (refs x) ≡ count_at run (min level (levels_for run.blocks)))
+leaf_changes X refs raised run level n old blocks result s m t one above is few size reads put =
+    let count : length old ≡ count_at run 1 = few ∙ ap (count_at run) one in
+    let first : min 1 run.levels ≡ 1 = omega (arith, above) in
+    let second : min 1 (levels_for run.blocks) ≡ 1 = omega (arith, levels_some run.blocks) in
+    let whole : touched_below run 1 ≡ count_at run 1 = omega arith in
+    let o : Old = list_old 1 (first_at run 1) (map or_hole old) [] blocks in
+    let l = list_leaf run (length old) (first_at run 1) old blocks refl (sym size) in
+    let inst = put o 0 m l.0 l.1 (reads_put 0 m m (reads_none 0 m)) in
+    rw (one, first, second)
+    (changes_wider (n + 0) (touched_below run 1 + raised_below run 1) (touched_below run 1) (touched_below run 1 + raised_below run 1) result s t (omega (arith, is, count, whole)) (omega arith)
+    (changes_after_reads n 0 (touched_below run 1 + raised_below run 1) result s m t reads
+    (changes_of (touched_below run 1 + raised_below run 1) (levels_made run o (length m.sizes) 1).puts result m t (levels_more run o (length m.sizes) 1) inst.1)),
+    if_ok result (λ x was. ap length was.0 ∙ length_levels run o (length m.sizes) 0) inst.0)
+
+pub level_changes : (X : Type 0) (refs : X → List (Option NodeRef)) (raised : X → Option NodeRef) (run : Run) (level reads : ℕ) (old children : List (Result (Option NodeRef) MacError)) (x : X) (result : Result X MacError) (s m t : ShelfState)
+    → 1 ≤ level → level ≤ levels_for run.blocks → length old ≡ count_at run level → length children ≡ 32 * length old
+    → Changes reads (touched_below run (min (level - 1) (levels_for run.blocks)) + raised_below run (min (level - 1) (levels_for run.blocks))) (Ok x) s m
+    → ((before : Old) (reads : ℕ) (made : Made) (start : ShelfState) → Knows run before level (first_at run level) old children
+    → refs x ≡ made.refs → raised x ≡ made.raised → HasPut reads made.puts start m
+    → LevelsPut refs raised reads (nodes_made run before (length start.sizes) level made (length old)) result start t)
+    → Changes reads (touched_below run (min level (levels_for run.blocks)) + raised_below run (min level (levels_for run.blocks))) result s t
+    × IfOk result (λ y. length (refs y) ≡ count_at run (min level (levels_for run.blocks)))
+level_changes X refs raised run level reads old children x result s m t above low few size went put =
+    let o : Old = list_old level (first_at run level) (map or_hole old) (map or_hole children) [] in
+    let below : Made = record { refs = refs x; raised = raised x; puts = [] } in
+    let inst = put o 0 below m (list_knows run level (first_at run level) old children above size) refl refl (reads_put 0 m m (reads_none 0 m)) in
+    let much : ℕ = (if nat_lt run.levels level && nat_lt 0 (first_at run level) then 1 else 0) + count_at run level in
+    let own : min level (levels_for run.blocks) ≡ level = omega (arith, low) in
+    (subst (λ (p : ℕ). Changes {X = X} reads p result s t) (bound_level run level above low)
+    (changes_then reads (touched_below run (min (level - 1) (levels_for run.blocks)) + raised_below run (min (level - 1) (levels_for run.blocks))) much x result s m t went
+    (changes_of much (nodes_made run o (length m.sizes) level below (length old)).puts result m t (omega (arith, few, nodes_more run o (length m.sizes) level below (length old))) inst.1)),
+    if_ok result (λ y was. ap length was.0 ∙ length-nodes_made run o (length m.sizes) level below (length old) ∙ few ∙ ap (count_at run) (sym own)) inst.0)
+
+pub sub_changes : {X : Type 0} (run : Run) (level n puts : ℕ) (result : Result X MacError) (s m t : ShelfState) → 1 ≤ level → n ≡ count_at run level → Reads n false s m → (run.levels < level → m ≡ s)
+    → Changes (touched_below run (min (level - 1) run.levels)) puts result m t → Changes (touched_below run (min level run.levels)) puts result s t
+sub_changes {X = X} run level n puts result s m t above few reads hole went =
+    subst (λ (r : ℕ). Changes {X = X} r puts result s t) (step_touched run level above)
+    (changes_after_reads (step_reads run level) (touched_below run (min (level - 1) run.levels)) puts result s m t (step_read run level n false s m few reads hole (λ high. refl)) went)
+
+-- ---- the whole
+
+room_in : (blocks : ℕ) → blocks ≤ 8388608 → blocks ≤ 32 ^ levels_for blocks
+room_in blocks most =
+    elim (cases_lt 32 blocks) [
+      | inr one ↦ let a : nat_le blocks (32 ^ 1) ≡ true = grind (arith, one) in rw a (omega (arith, one))
+      | inl over_one ↦
+          let a : nat_le blocks (32 ^ 1) ≡ false = grind (arith, over_one) in
+          elim (cases_lt 1024 blocks) [
+            | inr two ↦ let b : nat_le blocks (32 ^ 2) ≡ true = grind (arith, two) in rw (a, b) (omega (arith, two))
+            | inl over_two ↦
+                let b : nat_le blocks (32 ^ 2) ≡ false = grind (arith, over_two) in
+                elim (cases_lt 32768 blocks) [
+                  | inr three ↦ let d : nat_le blocks (32 ^ 3) ≡ true = grind (arith, three) in rw (a, b, d) (omega (arith, three))
+                  | inl over_three ↦
+                      let d : nat_le blocks (32 ^ 3) ≡ false = grind (arith, over_three) in
+                      elim (cases_lt 1048576 blocks) [
+                        | inr four ↦ let e : nat_le blocks (32 ^ 4) ≡ true = grind (arith, four) in rw (a, b, d, e) (omega (arith, four))
+                        | inl over_four ↦ let e : nat_le blocks (32 ^ 4) ≡ false = grind (arith, over_four) in rw (a, b, d, e) (omega (arith, most))
+                      ]
+                ]
+          ]
+    ]
+
+last_within : (run : Run) → run.from + length run.refs ≤ run.blocks → 0 < run.blocks → last_block run < run.blocks
+last_within run within some =
+    elim (cases_lt 0 (length run.refs)) [
+      | inl much ↦ let is : nat_lt 0 (length run.refs) ≡ true = grind (arith, much) in rw is (omega (arith, within, much))
+      | inr none ↦ let is : nat_lt 0 (length run.refs) ≡ false = grind (arith, none) in rw is (omega (arith, some))
+    ]
+
+-- a level with room for all blocks has one touched node, the first
+pub top_places : (run : Run) (level : ℕ) → run.from + length run.refs ≤ run.blocks → run.blocks ≤ 8388608 → 0 < run.blocks → levels_for run.blocks ≤ level
+    → (first_at run level ≡ 0) × (count_at run level ≡ 1)
+unfolding first_at last_at count_at
+top_places run level within most some high =
+    let room : 32 ^ levels_for run.blocks ≤ 32 ^ level = pow_mono 32 (levels_for run.blocks) level (omega arith) high in
+    let last : last_block run < 32 ^ level = omega (arith, room, room_in run.blocks most, last_within run within some) in
+    let zero_last : last_block run / 32 ^ level ≡ 0 = div-eq_of_lt last in
+    let zero_first : first_block run / 32 ^ level ≡ 0 = div-eq_of_lt (omega (arith, last, first_under_last run)) in
+    rw (zero_last, zero_first) (refl, refl)
+
+pub top_range : (held : List (List ℕ)) (record_size : ℕ) (run : Run) (level from count : ℕ) (top : Option NodeRef) → run.levels ≤ level → from ≡ 0 → count ≡ 1
+    → top ≡ (if nat_lt run.levels level then None else run.top) → IsRange (found_at held record_size run level) from count (Ok top ∷ [])
+top_range held record_size run level from count top high first one is =
+    elim (cases_lt run.levels level) [
+      | inl above ↦
+          let yes_above : nat_lt run.levels level ≡ true = grind (arith, above) in
+          rw (first, one, is, yes_above, found_above held record_size run level 0 above) refl
+      | inr not ↦
+          let same : level ≡ run.levels = omega (arith, high, not) in
+          let no_above : nat_lt run.levels level ≡ false = grind (arith, not) in
+          rw (first, one, is, no_above) (rw same (rw (found_top held record_size run 0) refl))
+    ]
+
+same_run : (run : Run) (old : Old) (base : ℕ) → 0 < run.blocks → (levels_made run old base (levels_for run.blocks)).puts ≡ puts_of run old base
+unfolding puts_of
+same_run run old base some =
+    let other : (run.blocks == 0) ≡ false = ne_eqb run.blocks 0 (λ e. omega (arith, e, some)) in
+    rw other refl
+
+all_pass : (held : List (List ℕ)) (record_size : ℕ) (run : Run) → AllWalk held record_size run (first_at run 1) (count_at run 1) → Passes held record_size run
+all_pass held record_size run walks = record { each = λ j touched. walks j touched.low (omega (arith, touched.high, order_at run 1, count_is run 1)) }
+
+first_fails : (held : List (List ℕ)) (record_size : ℕ) (run : Run) (stop : MacError) → 0 < run.blocks → FirstOf held record_size run (first_at run 1) (count_at run 1) stop → FirstFails held record_size run stop
+first_fails held record_size run stop some first =
+    record {
+      at = first.at;
+      touched = record { blocks = some; low = first.low; high = omega (arith, first.high, order_at run 1, count_is run 1) };
+      fails = first.fails;
+      before = λ j touched less. first.before j touched.low less;
+    }
+
+pub replaced_ok : (X : Type 0) (refs : X → List (Option NodeRef)) (raised : X → Option NodeRef) (held : List (List ℕ)) (record_size : ℕ) (run : Run) (level : ℕ) (x : X) (tree : ObjTree) (s t : ShelfState)
+    → 0 < run.blocks → run.levels ≤ level → levels_for run.blocks ≤ level → tree.levels ≡ levels_for run.blocks → tree.top ≡ get_or (refs x) 0 None
+    → LevelsRun refs raised held record_size run (touched_below run (min level run.levels)) (levels_made run (old_of held record_size run) (length s.sizes) (min level (levels_for run.blocks))) (Ok x) s t
+    → Replaced held record_size run (Ok tree) s t
+unfolding tree_of
+replaced_ok X refs raised held record_size run level x tree s t some one two levels top went =
+    let o : Old = old_of held record_size run in
+    let first : min level run.levels ≡ run.levels = omega (arith, one) in
+    let second : min level (levels_for run.blocks) ≡ levels_for run.blocks = omega (arith, two) in
+    let other : (run.blocks == 0) ≡ false = ne_eqb run.blocks 0 (λ e. omega (arith, e, some)) in
+    let same : (levels_made run o (length s.sizes) (min level (levels_for run.blocks))).puts ≡ puts_of run o (length s.sizes) =
+    ap (λ (l : ℕ). (levels_made run o (length s.sizes) l).puts) second ∙ same_run run o (length s.sizes) some in
+    let made : refs x ≡ (levels_made run o (length s.sizes) (levels_for run.blocks)).refs = went.ended.1 ∙ ap (λ (l : ℕ). (levels_made run o (length s.sizes) l).refs) second in
+    record {
+      calls = went.calls;
+      put = went.put;
+      rest = went.rest;
+      parts = went.parts ∙ same;
+      bound = omega (arith, went.bound, ap length went.parts, ap (touched_below run) first);
+      after = went.after;
+      fault = went.fault;
+      ended = (went.ended.0, rw other (λ i. record { levels = levels i; top = (top ∙ ap (λ (xs : List (Option NodeRef)). get_or xs 0 None) made) i }), all_pass held record_size run went.ended.3);
+    }
+
+pub replaced_err : (X : Type 0) (refs : X → List (Option NodeRef)) (raised : X → Option NodeRef) (held : List (List ℕ)) (record_size : ℕ) (run : Run) (level : ℕ) (stop : MacError) (s t : ShelfState)
+    → 0 < run.blocks → run.levels ≤ level → levels_for run.blocks ≤ level
+    → LevelsRun refs raised held record_size run (touched_below run (min level run.levels)) (levels_made run (old_of held record_size run) (length s.sizes) (min level (levels_for run.blocks))) (Err stop) s t
+    → Replaced held record_size run (Err stop) s t
+replaced_err X refs raised held record_size run level stop s t some one two went =
+    let o : Old = old_of held record_size run in
+    let first : min level run.levels ≡ run.levels = omega (arith, one) in
+    let second : min level (levels_for run.blocks) ≡ levels_for run.blocks = omega (arith, two) in
+    let same : (levels_made run o (length s.sizes) (min level (levels_for run.blocks))).puts ≡ puts_of run o (length s.sizes) =
+    ap (λ (l : ℕ). (levels_made run o (length s.sizes) l).puts) second ∙ same_run run o (length s.sizes) some in
+    record {
+      calls = went.calls;
+      put = went.put;
+      rest = went.rest;
+      parts = went.parts ∙ same;
+      bound = omega (arith, went.bound, ap length went.parts, ap (touched_below run) first);
+      after = went.after;
+      fault = same_fault ObjTree X stop ∙ went.fault;
+      ended = by_stop stop went.put went.rest went.ended;
+    }
+  where
+    by_stop : (e : MacError) (put rest : List (List ℕ)) → LevelsEnded refs raised held record_size run (levels_made run (old_of held record_size run) (length s.sizes) (min level (levels_for run.blocks))) put rest (Err e) t
+        → Ended held record_size run (length s.sizes) put rest (Err e) t
+    by_stop (MacFailed k place) put rest ended = (ended.0, first_fails held record_size run (MacFailed k place) some ended.1)
+    by_stop ShelfFault put rest ended = tt
+    by_stop Full put rest ended = (ended.0, all_pass held record_size run ended.1)
+    by_stop NoMemory put rest ended = tt
+
+pub replaced_none : (held : List (List ℕ)) (record_size : ℕ) (run : Run) (tree : ObjTree) (s : ShelfState) → run.blocks ≡ 0 → tree.levels ≡ levels_for run.blocks → tree.top ≡ None
+    → Replaced held record_size run (Ok tree) s s
+unfolding puts_of tree_of
+replaced_none held record_size run tree s none levels top =
+    let is : (run.blocks == 0) ≡ true = eq-eqb run.blocks 0 none in
+    record {
+      calls = 0;
+      put = [];
+      rest = [];
+      parts = rw is refl;
+      bound = omega arith;
+      after = sym (blocks_nothing s);
+      fault = refl;
+      ended = (refl, rw is (λ i. record { levels = levels i; top = top i }), record { each = λ j touched. absurd (omega (arith, touched.blocks, none)) });
+    }

@@ -398,6 +398,13 @@ fn replace_levels<B: Shelf>(
     put_level(alloc, run, shelf, level, old, &children, &below)
 }
 
+// What stands at the first place of a level, of the old top's or above.
+fn old_top(tree: &ObjTree, level: u8) -> Option<NodeRef>
+    ensures { result ≡ (if nat_lt tree.now.levels level then None else tree.now.top) }
+{
+    if level > tree.levels { None } else { tree.top }
+}
+
 /// The tree with a run of references put in, of `blocks` blocks in all.
 ///
 /// The references `refs` stand in it from the block `from` on, and behind `blocks` there are none.
@@ -442,8 +449,8 @@ pub fn replace_run<B: Shelf>(
         refs,
         block,
     };
-    let top = if levels > tree.levels { None } else { tree.top };
-    match replace_levels(alloc, &run, shelf, levels.max(tree.levels), &[Ok(top)]) {
+    let highest = levels.max(tree.levels);
+    match replace_levels(alloc, &run, shelf, highest, &[Ok(old_top(tree, highest))]) {
         Ok(made) => Ok(ObjTree {
             levels,
             top: made.refs[0],
