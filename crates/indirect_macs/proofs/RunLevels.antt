@@ -21,6 +21,7 @@ use Rattle.indirect_macs.proofs.RunBounds.{nodes_more, levels_more}
 use Rattle.indirect_macs.proofs.RunSpans.{order_at, count_is, first_under_last}
 use Rattle.indirect_macs.proofs.RunFound.{found_above, found_top}
 use Rattle.std.proofs.Math.Pow.{pow_mono}
+use Rattle.indirect_macs.proofs.Powers.{pow-32}
 use Rattle.std.proofs.Math.Nat.{div-eq_of_lt}
 use Rattle.indirect_macs.specs.declared.refs.ObjTree.{ObjTree}
 use Rattle.indirect_macs.proofs.RunReading.{held_same, for_each_held, reads_none, if_ok}
@@ -514,7 +515,8 @@ pub top_places : (run : Run) (level : ℕ) → run.from + length run.refs ≤ ru
     → (first_at run level ≡ 0) × (count_at run level ≡ 1)
 unfolding first_at last_at count_at
 top_places run level within most some high =
-    let room : 32 ^ levels_for run.blocks ≤ 32 ^ level = pow_mono 32 (levels_for run.blocks) level (omega arith) high in
+    let more : 5 * levels_for run.blocks ≤ 5 * level = omega (arith, high) in
+    let room : 32 ^ levels_for run.blocks ≤ 32 ^ level = rw (← pow-32 (levels_for run.blocks), ← pow-32 level) (pow_mono more) in
     let last : last_block run < 32 ^ level = omega (arith, room, room_in run.blocks most, last_within run within some) in
     let zero_last : last_block run / 32 ^ level ≡ 0 = div-eq_of_lt last in
     let zero_first : first_block run / 32 ^ level ≡ 0 = div-eq_of_lt (omega (arith, last, first_under_last run)) in
