@@ -1,6 +1,6 @@
 -- The levels of a run one after another, over plain variables.
 use Rattle.std.proofs.Common.{◌≡◌, ℕ, zero, suc, ◌+◌, ◌-◌, ◌*◌, ◌/◌, ◌^◌, ◌<◌, ◌≤◌, Bool, true, false, ◌==◌, ◌&&◌, nat_lt, nat_le, get_or, List, [], ◌∷◌, ◌++◌, length, map, refl, sym, ap, subst, ◌∙◌, inl, inr, arith, Option, Some, None, Result, Ok, Err, if◌then◌else◌}
-use Rattle.std.specs.Prelude.{IfOk, IfErr, IfSome, min, ⊤}
+use Rattle.std.specs.Prelude.{IfOk, IfSome, min}
 use Rattle.std.specs.List.{range_with_len}
 use Rattle.std.specs.Option.{option_map}
 use Rattle.std.proofs.lemmas.Bool.{cases_lt, ne_eqb, eq-eqb}
@@ -11,12 +11,12 @@ use Rattle.indirect_macs.specs.declared.refs.NodeRef.{NodeRef}
 use Rattle.indirect_macs.specs.declared.refs.MacError.{MacError}
 use Rattle.indirect_macs.specs.declared.refs.MacError.TheVariants.{MacFailed, ShelfFault, Full, NoMemory}
 use Rattle.indirect_macs.specs.Calls.{fails_within, is_fault}
-use Rattle.indirect_macs.specs.Replaced.{Changes, Ended, IsTooMuch, Replaced, with_blocks}
-use Rattle.indirect_macs.specs.Runs.{Run, Old, Made, FirstFails, IsTouched, Passes, old_of, or_hole, found_at, first_at, last_at, count_at, first_block, last_block, puts_of, tree_of, levels_for, levels_made, nodes_made, touched_below, raised_below}
+use Rattle.indirect_macs.specs.Replaced.{Changes, Ended, Replaced, with_blocks}
+use Rattle.indirect_macs.specs.Runs.{Run, Old, Made, FirstFails, Passes, old_of, or_hole, found_at, first_at, last_at, count_at, first_block, last_block, puts_of, tree_of, levels_for, levels_made, nodes_made, touched_below, raised_below}
 use Rattle.indirect_macs.specs.Steps.{AllWalk, FirstOf, HasPut, IsRange, IsStop, Knows, LevelsEnded, LevelsPut, LevelsRun, Puts, PutEnded, Reads, StopsAt}
-use Rattle.indirect_macs.proofs.Putting.{has_put, put_all, same_fault, sizes_kept, too_much_front}
+use Rattle.indirect_macs.proofs.Putting.{same_fault, sizes_kept, too_much_front}
 use Rattle.indirect_macs.proofs.Reading.{both}
-use Rattle.indirect_macs.proofs.RunMade.{IsFront, whole_front, levels_front, length-nodes_made}
+use Rattle.indirect_macs.proofs.RunMade.{IsFront, length-nodes_made}
 use Rattle.indirect_macs.proofs.RunBounds.{nodes_more, levels_more}
 use Rattle.indirect_macs.proofs.RunSpans.{order_at, count_is, first_under_last}
 use Rattle.indirect_macs.proofs.RunFound.{found_above, found_top}
@@ -219,14 +219,14 @@ pub below_told : (X : Type 0) (refs : X → List (Option NodeRef)) (raised : X �
     (levels_made run (old_of held record_size run) (length s.sizes) (min (level - 1) (levels_for run.blocks))) result s t)
 below_told X refs raised record_size run level n old children under result s m t above is few reads hole told part sub =
     let sub_s = subst (λ (h : Option (List (List ℕ))). IfSome h (λ held. IsRange (found_at held record_size run (level - 1)) (first_at run (level - 1)) (length under) under
-        → LevelsRun {X = X} refs raised held record_size run (touched_below run (min (level - 1) run.levels))
-        (levels_made run (old_of held record_size run) (length m.sizes) (min (level - 1) (levels_for run.blocks))) result m t)) (held_same n false s m reads) sub in
+    → LevelsRun {X = X} refs raised held record_size run (touched_below run (min (level - 1) run.levels))
+    (levels_made run (old_of held record_size run) (length m.sizes) (min (level - 1) (levels_for run.blocks))) result m t)) (held_same n false s m reads) sub in
     both s.held told sub_s (λ held found ran range.
     let whole : IsRange (found_at held record_size run (level - 1)) (32 * first_at run level) (32 * count_at run level) children =
     subst (λ (k : ℕ). IsRange (found_at held record_size run (level - 1)) (32 * first_at run level) (32 * k) children) (sym is ∙ few) (found range) in
     let went = ran (part (found_at held record_size run (level - 1)) whole) in
     let based = subst (λ (base : ℕ). LevelsRun {X = X} refs raised held record_size run (touched_below run (min (level - 1) run.levels))
-        (levels_made run (old_of held record_size run) base (min (level - 1) (levels_for run.blocks))) result m t) (sizes_same n s m reads) went in
+    (levels_made run (old_of held record_size run) base (min (level - 1) (levels_for run.blocks))) result m t) (sizes_same n s m reads) went in
     subst (λ (r : ℕ). LevelsRun {X = X} refs raised held record_size run r (levels_made run (old_of held record_size run) (length s.sizes) (min (level - 1) (levels_for run.blocks))) result s t)
     (step_touched run level above)
     (run_after_reads held record_size run (step_reads run level) (touched_below run (min (level - 1) run.levels)) _ result s m t
@@ -448,11 +448,12 @@ leaf_changes X refs raised run level n old blocks result s m t one above is few 
     let o : Old = list_old 1 (first_at run 1) (map or_hole old) [] blocks in
     let l = list_leaf run (length old) (first_at run 1) old blocks refl (sym size) in
     let inst = put o 0 m l.0 l.1 (reads_put 0 m m (reads_none 0 m)) in
-    rw (one, first, second)
-    (changes_wider (n + 0) (touched_below run 1 + raised_below run 1) (touched_below run 1) (touched_below run 1 + raised_below run 1) result s t (omega (arith, is, count, whole)) (omega arith)
-    (changes_after_reads n 0 (touched_below run 1 + raised_below run 1) result s m t reads
-    (changes_of (touched_below run 1 + raised_below run 1) (levels_made run o (length m.sizes) 1).puts result m t (levels_more run o (length m.sizes) 1) inst.1)),
-    if_ok result (λ x was. ap length was.0 ∙ length_levels run o (length m.sizes) 0) inst.0)
+    rw (one, first, second) (
+      changes_wider (n + 0) (touched_below run 1 + raised_below run 1) (touched_below run 1) (touched_below run 1 + raised_below run 1) result s t (omega (arith, is, count, whole)) (omega arith)
+          (changes_after_reads n 0 (touched_below run 1 + raised_below run 1) result s m t reads
+          (changes_of (touched_below run 1 + raised_below run 1) (levels_made run o (length m.sizes) 1).puts result m t (levels_more run o (length m.sizes) 1) inst.1)),
+      if_ok result (λ x was. ap length was.0 ∙ length_levels run o (length m.sizes) 0) inst.0,
+    )
 
 pub level_changes : (X : Type 0) (refs : X → List (Option NodeRef)) (raised : X → Option NodeRef) (run : Run) (level reads : ℕ) (old children : List (Result (Option NodeRef) MacError)) (x : X) (result : Result X MacError) (s m t : ShelfState)
     → 1 ≤ level → level ≤ levels_for run.blocks → length old ≡ count_at run level → length children ≡ 32 * length old
@@ -467,11 +468,12 @@ level_changes X refs raised run level reads old children x result s m t above lo
     let below : Made = record { refs = refs x; raised = raised x; puts = [] } in
     let inst = put o 0 below m (list_knows run level (first_at run level) old children above size) refl refl (reads_put 0 m m (reads_none 0 m)) in
     let much : ℕ = (if nat_lt run.levels level && nat_lt 0 (first_at run level) then 1 else 0) + count_at run level in
-    let own : min level (levels_for run.blocks) ≡ level = omega (arith, low) in
-    (subst (λ (p : ℕ). Changes {X = X} reads p result s t) (bound_level run level above low)
-    (changes_then reads (touched_below run (min (level - 1) (levels_for run.blocks)) + raised_below run (min (level - 1) (levels_for run.blocks))) much x result s m t went
-    (changes_of much (nodes_made run o (length m.sizes) level below (length old)).puts result m t (omega (arith, few, nodes_more run o (length m.sizes) level below (length old))) inst.1)),
-    if_ok result (λ y was. ap length was.0 ∙ length-nodes_made run o (length m.sizes) level below (length old) ∙ few ∙ ap (count_at run) (sym own)) inst.0)
+    let own : min level (levels_for run.blocks) ≡ level = omega (arith, low) in (
+      subst (λ (p : ℕ). Changes {X = X} reads p result s t) (bound_level run level above low)
+          (changes_then reads (touched_below run (min (level - 1) (levels_for run.blocks)) + raised_below run (min (level - 1) (levels_for run.blocks))) much x result s m t went
+          (changes_of much (nodes_made run o (length m.sizes) level below (length old)).puts result m t (omega (arith, few, nodes_more run o (length m.sizes) level below (length old))) inst.1)),
+      if_ok result (λ y was. ap length was.0 ∙ length-nodes_made run o (length m.sizes) level below (length old) ∙ few ∙ ap (count_at run) (sym own)) inst.0,
+    )
 
 pub sub_changes : {X : Type 0} (run : Run) (level n puts : ℕ) (result : Result X MacError) (s m t : ShelfState) → 1 ≤ level → n ≡ count_at run level → Reads n false s m → (run.levels < level → m ≡ s)
     → Changes (touched_below run (min (level - 1) run.levels)) puts result m t → Changes (touched_below run (min level run.levels)) puts result s t

@@ -1,5 +1,5 @@
 -- What putting one node more makes of a level, over plain variables.
-use Rattle.std.proofs.Common.{◌≡◌, ℕ, zero, suc, ◌+◌, ◌-◌, ◌*◌, ◌<◌, ◌≤◌, Bool, true, false, ◌==◌, ◌&&◌, nat_lt, get_or, List, [], ◌∷◌, ◌++◌, length, map, take, drop, replicate, refl, sym, ap, subst, ◌∙◌, arith, Option, Some, None, Result, Ok, Err, if◌then◌else◌}
+use Rattle.std.proofs.Common.{◌≡◌, ℕ, suc, ◌+◌, ◌-◌, ◌<◌, ◌≤◌, Bool, true, false, ◌==◌, ◌&&◌, nat_lt, get_or, List, [], ◌∷◌, ◌++◌, length, map, take, drop, replicate, refl, sym, ap, subst, ◌∙◌, arith, Option, None, Result, Ok, Err, if◌then◌else◌}
 use Rattle.std.specs.Prelude.{IfOk, IfErr}
 use Rattle.std.specs.Cmp.Lexicographic.{pointwise}
 use Rattle.std.specs.Option.{option_eq}
@@ -8,10 +8,10 @@ use Rattle.shelf_store.specs.ShelfState.{ShelfState}
 use Rattle.indirect_macs.specs.declared.refs.BlockRef.{BlockRef}
 use Rattle.indirect_macs.specs.declared.refs.NodeRef.{NodeRef}
 use Rattle.indirect_macs.specs.declared.refs.MacError.{MacError}
-use Rattle.indirect_macs.specs.declared.refs.MacError.TheVariants.{MacFailed, ShelfFault, Full, NoMemory}
+use Rattle.indirect_macs.specs.declared.refs.MacError.TheVariants.{NoMemory}
 use Rattle.indirect_macs.specs.Runs.{Run, Old, Made, Node, entries_at, target, new_ref, new_node, kept, leaf_of, inner_of, same_block, same_node, ref_with, puts_with, begun, nodes_made, levels_made, count_at, first_at, or_hole}
 use Rattle.indirect_macs.specs.Steps.{IsRange, Puts, HasPut, added}
-use Rattle.indirect_macs.proofs.Putting.{put_all, next_address, has_put, put_no_memory, put_front_of, same_puts}
+use Rattle.indirect_macs.proofs.Putting.{put_all, next_address, put_no_memory, put_front_of, same_puts}
 use Rattle.indirect_macs.proofs.RunMade.{whole_front, nodes_front, nodes_raised, begun_refs}
 use Rattle.indirect_macs.proofs.RunReading.{if_ok}
 use Rattle.indirect_macs.proofs.Spans.{one_of_range}
@@ -54,16 +54,20 @@ add_done base reads node made_node stays made_stays x made refs after start old 
     let same : Puts {X = Unit {0}} reads (puts_with node stays made.puts) (Ok done) start new = same_puts reads (puts_with node stays made.puts) x done start new puts in
     (pushed ∙ rw (refs_is, value, address, is, stay) refl, rw (is, stay) at same)
 add_done base reads node made_node stays made_stays x made refs after start old new (Err stop) is stay at refs_is had value puts pushed gone =
-    let same : HasPut reads (puts_with node stays made.puts) start new = same_puts reads (puts_with node stays made.puts) x tt start new puts in
-    (tt, subst (λ (e : MacError). Puts {X = Unit {0}} reads (puts_with made_node made_stays made.puts) (Err e) start new) (sym gone)
-    (rw (is, stay) at (put_no_memory {X = Unit {0}} reads (puts_with node stays made.puts) (puts_with node stays made.puts) start new (whole_front (puts_with node stays made.puts)) same)))
+    let same : HasPut reads (puts_with node stays made.puts) start new = same_puts reads (puts_with node stays made.puts) x tt start new puts in (
+      tt,
+      subst (λ (e : MacError). Puts {X = Unit {0}} reads (puts_with made_node made_stays made.puts) (Err e) start new) (sym gone)
+          (rw (is, stay) at (put_no_memory {X = Unit {0}} reads (puts_with node stays made.puts) (puts_with node stays made.puts) start new (whole_front (puts_with node stays made.puts)) same)),
+    )
 
 pub add_stopped : (reads : ℕ) (node made_node : Node) (stays made_stays : Option NodeRef) (made : Made) (stop : MacError) (start new : ShelfState)
     → node ≡ made_node → stays ≡ made_stays → Puts {X = Option NodeRef} reads (puts_with node stays made.puts) (Err stop) start new
     → Unit {0} × Puts {X = Unit {0}} reads (puts_with made_node made_stays made.puts) (Err stop) start new
-add_stopped reads node made_node stays made_stays made stop start new is stay puts =
-    (tt, rw (is, stay) at (put_front_of {X = Option NodeRef} {Y = Unit {0}} reads (puts_with node stays made.puts) (puts_with node stays made.puts) stop start new
-    (whole_front (puts_with node stays made.puts)) puts))
+add_stopped reads node made_node stays made_stays made stop start new is stay puts = (
+  tt,
+  rw (is, stay) at (put_front_of {X = Option NodeRef} {Y = Unit {0}} reads (puts_with node stays made.puts) (puts_with node stays made.puts) stop start new
+      (whole_front (puts_with node stays made.puts)) puts),
+)
 
 pub raised_put : (run : Run) (base level reads : ℕ) (made : Made) (entries : List (Option NodeRef)) (result : Result (Option NodeRef) MacError) (start old new : ShelfState)
     → (nat_lt run.levels level && nat_lt 0 (first_at run level)) ≡ true → entries ≡ made.raised ∷ replicate 31 None → base ≡ length start.sizes → HasPut reads made.puts start old

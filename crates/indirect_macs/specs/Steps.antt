@@ -1,5 +1,5 @@
 -- What the steps of putting a run into a tree leave of a shelf.
-use Rattle.std.specs.Prelude.{ℕ, ◌+◌, ◌-◌, ◌*◌, ◌<◌, ◌≤◌, ◌≡◌, Bool, true, false, List, [], ◌∷◌, ◌++◌, length, map, replicate, min, IfOk, Option, Some, None, Result, Ok, Err, IsOk, ⊤}
+use Rattle.std.specs.Prelude.{ℕ, ◌+◌, ◌-◌, ◌*◌, ◌<◌, ◌≤◌, ◌≡◌, Bool, List, [], ◌∷◌, ◌++◌, length, map, replicate, IfOk, Option, Some, None, Result, Ok, Err, IsOk, ⊤}
 use Rattle.std.specs.List.{range_with_len}
 use Rattle.shelf_store.specs.ShelfState.{ShelfState, after_calls}
 use Rattle.indirect_macs.specs.declared.refs.BlockRef.{BlockRef}
@@ -8,7 +8,7 @@ use Rattle.indirect_macs.specs.declared.refs.MacError.{MacError}
 use Rattle.indirect_macs.specs.declared.refs.MacError.TheVariants.{MacFailed, ShelfFault, Full, NoMemory}
 use Rattle.indirect_macs.specs.Calls.{fails_within, is_fault}
 use Rattle.indirect_macs.specs.Replaced.{with_blocks, IsTooMuch}
-use Rattle.indirect_macs.specs.Runs.{Run, Old, Made, Node, ref_with, puts_with, count_at, first_at, levels_for, levels_made, touched_below, old_of, entries_at, or_hole, walk_to, found_at}
+use Rattle.indirect_macs.specs.Runs.{Run, Old, Made, Node, ref_with, puts_with, count_at, first_at, old_of, entries_at, or_hole, walk_to}
 
 -- some calls were made, at most so many, of which one was the armed one or not; nothing was put
 pub record Reads (most : ℕ) (fault : Bool) (old new : ShelfState) : Type 0 where

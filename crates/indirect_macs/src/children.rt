@@ -117,7 +117,14 @@ fn found_in<B: Shelf>(
         IfOk result (λ found. found ≡ entries_at (λ i. child_of held run.now.block level i (Some node.now)) index)) }
 {
     let mut bytes = [0; ENTRIES * NODE_ENTRY_LEN];
-    match read_node(shelf, node, level, block_over(level, index), run.block, &mut bytes) {
+    match read_node(
+        shelf,
+        node,
+        level,
+        block_over(level, index),
+        run.block,
+        &mut bytes,
+    ) {
         Ok(()) => Ok(refs_in(&bytes)),
         Err(stop) => spread(stop),
     }
@@ -232,7 +239,14 @@ pub fn read_children<B: Shelf>(
     let first = first_at(run, level);
     let mut children = Vec::new(alloc);
     'nodes: for i in 0..old.len() {
-        if let Err(stop) = add_children(run, shelf, level, first + i as u32, &old[i], &mut children) {
+        if let Err(stop) = add_children(
+            run,
+            shelf,
+            level,
+            first + i as u32,
+            &old[i],
+            &mut children,
+        ) {
             return Err(stop);
         }
     }

@@ -220,7 +220,12 @@ fn add_inner<B: Shelf>(
 {
     let children = old_refs(before);
     let entries = new_refs(run, level, below, index, &children);
-    match put_inner(shelf, level, &entries, &kept(same_refs(&children, &entries), old)) {
+    match put_inner(
+        shelf,
+        level,
+        &entries,
+        &kept(same_refs(&children, &entries), old),
+    ) {
         Ok(node) => push(refs, node),
         Err(stop) => Err(stop),
     }
@@ -303,7 +308,16 @@ fn put_nodes<B: Shelf>(
     let mut refs = Vec::new(alloc);
     'nodes: for i in 0..old.len() {
         let before = &children[ENTRIES * i..ENTRIES * i + ENTRIES];
-        if let Err(stop) = add_inner(run, shelf, level, first + i as u32, &old[i], before, below, &mut refs) {
+        if let Err(stop) = add_inner(
+            run,
+            shelf,
+            level,
+            first + i as u32,
+            &old[i],
+            before,
+            below,
+            &mut refs,
+        ) {
             return Err(stop);
         }
     }

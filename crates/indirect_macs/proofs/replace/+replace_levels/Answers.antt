@@ -1,14 +1,13 @@
-use Rattle.std.proofs.Common.{◌≡◌, ℕ, ◌+◌, ◌-◌, ◌*◌, ◌<◌, ◌≤◌, List, Option, Result, length, map, refl, sym, ap, subst, ◌∙◌, arith, Ok, Err, None, Vec, Global}
-use Rattle.std.specs.Prelude.{IfSome, min}
+use Rattle.std.proofs.Common.{◌+◌, ◌-◌, Option, Result, length, refl, arith, Ok, Err, Vec, Global}
+use Rattle.std.specs.Prelude.{min}
 use Rattle.std.proofs.lemmas.Option.{IfSome_then}
 use Rattle.indirect_macs.specs.declared.refs.BlockRef.{BlockRef}
 use Rattle.indirect_macs.specs.declared.refs.NodeRef.{NodeRef}
 use Rattle.indirect_macs.specs.declared.refs.MacError.{MacError}
 use Rattle.indirect_macs.specs.RunFields.{run_of}
-use Rattle.indirect_macs.specs.Runs.{first_at, count_at, found_at, levels_for, old_of, levels_made, raised_below, touched_below}
-use Rattle.indirect_macs.specs.Steps.{IsRange}
+use Rattle.indirect_macs.specs.Runs.{levels_for, old_of, raised_below, touched_below}
 use Rattle.indirect_macs.proofs.RunMade.{levels_front}
-use Rattle.indirect_macs.proofs.RunLevels.{below_told, run_longer, reads_stop, leaf_told, leaf_stop, children_stop, level_told, same_level, changes_after_reads, changes_wider, reads_changes, changes_then, changes_of, step_reads, step_read, step_touched, bound_grows, leaf_changes, level_changes, sub_changes}
+use Rattle.indirect_macs.proofs.RunLevels.{below_told, run_longer, leaf_told, leaf_stop, children_stop, level_told, same_level, changes_wider, reads_changes, step_reads, step_read, step_touched, bound_grows, leaf_changes, level_changes, sub_changes}
 use Rattle.indirect_macs.proofs.replace.+replace_levels.Goals as goal
 
 pub returns-in-Err-replace_levels-clause-told : goal.returns-in-Err-replace_levels-clause-told

@@ -1,4 +1,4 @@
-use Rattle.std.proofs.Common.{◌≡◌, ◌∙◌, length, sym, ap, arith}
+use Rattle.std.proofs.Common.{◌∙◌, length, sym}
 use Rattle.indirect_macs.specs.RunFields.{run_of}
 use Rattle.indirect_macs.proofs.RunMade.{nodes_raised}
 use Rattle.indirect_macs.proofs.Putting.{same_puts}

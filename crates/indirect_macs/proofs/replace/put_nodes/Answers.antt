@@ -1,13 +1,12 @@
-use Rattle.std.proofs.Common.{◌≡◌, ℕ, ◌+◌, ◌-◌, ◌*◌, ◌^◌, ◌<◌, ◌≤◌, [], length, map, take, drop, refl, sym, ap, ◌∙◌, subst, arith, List, Option, Result, Ok, Err, None, length-take, length-drop}
+use Rattle.std.proofs.Common.{◌≡◌, ℕ, ◌+◌, ◌-◌, length, map, sym, ap, ◌∙◌, subst, arith, Option, Result}
 use Rattle.indirect_macs.specs.RunFields.{run_of}
-use Rattle.indirect_macs.specs.Runs.{first_at, count_at, or_hole}
+use Rattle.indirect_macs.specs.Runs.{first_at, or_hole}
 use Rattle.indirect_macs.proofs.RunSpans.{count_small, last_at_small, touched_last, entries_fit}
 use Rattle.indirect_macs.proofs.Spans.{entries_of_range}
-use Rattle.indirect_macs.proofs.RunPutting.{leaves_none, leaves_all, leaves_stop, nodes_none, nodes_step, nodes_stop, old_node, none_made, map_part, NodesPut, puts_any}
+use Rattle.indirect_macs.proofs.RunPutting.{nodes_none, nodes_step, nodes_stop, old_node, map_part, NodesPut}
 use Rattle.indirect_macs.specs.declared.refs.NodeRef.{NodeRef}
 use Rattle.indirect_macs.specs.declared.refs.MacError.{MacError}
-use Rattle.indirect_macs.specs.Steps.{HasPut, Puts, added}
-use Rattle.indirect_macs.specs.Runs.{Made, Old, nodes_made, new_node, kept, entries_at}
+use Rattle.indirect_macs.specs.Runs.{Made, nodes_made, entries_at}
 use Rattle.indirect_macs.proofs.Putting.{same_puts}
 use Rattle.indirect_macs.proofs.replace.put_nodes.Goals as goal
 

@@ -1,11 +1,11 @@
-use Rattle.std.proofs.Common.{◌≡◌, ◌≤◌, ◌<◌, length, refl, sym, ap, ◌∙◌, arith, Ok, Err, None}
-use Rattle.std.specs.Prelude.{min, max}
+use Rattle.std.proofs.Common.{refl, sym, arith, None}
+use Rattle.std.specs.Prelude.{min}
 use Rattle.std.proofs.lemmas.Option.{IfSome_then}
 use Rattle.std.proofs.lemmas.List.{get_or_read}
 use Rattle.indirect_macs.specs.RunFields.{run_for}
 use Rattle.indirect_macs.specs.Runs.{first_at, levels_for}
 use Rattle.indirect_macs.proofs.RunReading.{for_each_held}
-use Rattle.indirect_macs.proofs.RunLevels.{top_places, top_range, replaced_ok, replaced_err, replaced_none, levels_some}
+use Rattle.indirect_macs.proofs.RunLevels.{top_places, top_range, replaced_ok, replaced_err, replaced_none}
 use Rattle.indirect_macs.proofs.replace.replace_run.Goals as goal
 
 pub returns-then-blocks-eq0-clause-told : goal.returns-then-blocks-eq0-clause-told
@@ -19,8 +19,12 @@ replace_levels-requires-clause-count g c =
 
 pub index-requires : goal.index-requires
 index-requires g c =
-    omega (arith, c.in-Ok.ensures.count, c.in-Ok.made.refs.ok.0,
-    (top_places (run_for c.args.tree.now c.args.blocks c.args.from c.args.refs.now) (min c.max-highest.result (levels_for c.args.blocks)) c.requires.within c.requires.most (omega arith) (omega (arith, c.levels_for-levels.ensures.value, c.max-highest.ensures))).1)
+    omega (
+      arith,
+      c.in-Ok.ensures.count,
+      c.in-Ok.made.refs.ok.0,
+      (top_places (run_for c.args.tree.now c.args.blocks c.args.from c.args.refs.now) (min c.max-highest.result (levels_for c.args.blocks)) c.requires.within c.requires.most (omega arith) (omega (arith, c.levels_for-levels.ensures.value, c.max-highest.ensures))).1,
+    )
 
 pub returns-in-Ok-clause-told : goal.returns-in-Ok-clause-told
 returns-in-Ok-clause-told g c =
