@@ -26,3 +26,4 @@ pub mod RunTrees
 pub mod RunBytes
 pub mod RunUnchanged
 pub mod RunSamples
+pub mod RunLevels

@@ -1,16 +1,14 @@
 -- What putting blocks leaves of a shelf, block by block.
-use Rattle.std.proofs.Common.{◌≡◌, ℕ, zero, suc, ◌+◌, ◌-◌, ◌*◌, ◌<◌, ◌≤◌, Bool, true, false, ◌||◌, List, [], ◌∷◌, ◌++◌, length, map, refl, sym, ap, subst, ◌∙◌, arith, Option, Some, None, Result, Ok, Err, if◌then◌else◌, is_some}
-use Rattle.std.specs.Prelude.{IsTrue, sum, ⊤}
+use Rattle.std.proofs.Common.{◌≡◌, ℕ, zero, suc, ◌+◌, ◌≤◌, Bool, true, false, ◌||◌, List, [], ◌∷◌, ◌++◌, length, map, refl, sym, ap, subst, ◌∙◌, arith, Option, Some, None, Ok, Err}
 use Rattle.std.specs.Option.{option_map}
 use Rattle.std.proofs.lemmas.List.{append_assoc, append-nil, length-append, map-append}
-use Rattle.shelf_store.specs.declared.shelf.TheConstants.{SHELF_BYTES}
 use Rattle.shelf_store.specs.ShelfState.{ShelfState, is_due, counted, after_calls, with_block}
 use Rattle.indirect_macs.specs.declared.refs.NodeRef.{NodeRef}
 use Rattle.indirect_macs.specs.declared.refs.MacError.{MacError}
 use Rattle.indirect_macs.specs.declared.refs.MacError.TheVariants.{MacFailed, ShelfFault, Full, NoMemory}
 use Rattle.indirect_macs.specs.Calls.{fails_within, is_fault}
 use Rattle.indirect_macs.specs.Replaced.{with_blocks, IsTooMuch}
-use Rattle.indirect_macs.specs.Steps.{Puts, PutEnded, HasPut, Reads}
+use Rattle.indirect_macs.specs.Steps.{Puts, PutEnded, HasPut}
 use Rattle.indirect_macs.specs.Runs.{Node, is_put, puts_with, ref_with}
 use Rattle.indirect_macs.proofs.Walking.{after_more, fails_more}
 use Rattle.indirect_macs.proofs.RunMade.{IsFront, whole_front}
@@ -78,7 +76,7 @@ has_put reads whole x start new put =
       ended = refl;
     }
 
-sizes_kept : (calls : ℕ) (s : ShelfState) → (after_calls calls s).sizes ≡ s.sizes
+pub sizes_kept : (calls : ℕ) (s : ShelfState) → (after_calls calls s).sizes ≡ s.sizes
 sizes_kept zero s = refl
 sizes_kept (suc calls) s = sizes_kept calls (counted s)
 
@@ -135,7 +133,7 @@ pub same_puts : {X Y : Type 0} (reads : ℕ) (whole : List (List ℕ)) (x : X) (
 same_puts reads whole x y start new had =
     record { calls = had.calls; put = had.put; rest = had.rest; parts = had.parts; bound = had.bound; after = had.after; fault = had.fault; ended = had.ended }
 
-too_much_front : (rest more : List (List ℕ)) (s : ShelfState) → IsTooMuch rest s → IsTooMuch (rest ++ more) s
+pub too_much_front : (rest more : List (List ℕ)) (s : ShelfState) → IsTooMuch rest s → IsTooMuch (rest ++ more) s
 too_much_front [] more s much = absurd much
 too_much_front (b ∷ rest) more s much = much
 

@@ -106,7 +106,7 @@ begun_more run base level below = by_raised _ (nat_lt run.levels level && nat_lt
     by_raised some true more = more
     by_raised some false more = omega arith
 
-nodes_more : (run : Run) (old : Old) (base level : ℕ) (below : Made) (count : ℕ) → length (nodes_made run old base level below count).puts
+pub nodes_more : (run : Run) (old : Old) (base level : ℕ) (below : Made) (count : ℕ) → length (nodes_made run old base level below count).puts
     ≤ length below.puts + (if nat_lt run.levels level && nat_lt 0 (first_at run level) then 1 else 0) + count
 unfolding nodes_made
 nodes_more run old base level below zero = omega (arith, begun_more run base level below)
@@ -117,7 +117,7 @@ nodes_more run old base level below (suc n) =
       puts_more (new_node run old level below (first_at run level + n)) (kept run old level below (first_at run level + n)) (nodes_made run old base level below n).puts,
     )
 
-levels_more : (run : Run) (old : Old) (base levels : ℕ) → length (levels_made run old base levels).puts ≤ touched_below run levels + raised_below run levels
+pub levels_more : (run : Run) (old : Old) (base levels : ℕ) → length (levels_made run old base levels).puts ≤ touched_below run levels + raised_below run levels
 unfolding levels_made
 levels_more run old base zero = omega arith
 levels_more run old base (suc level) =

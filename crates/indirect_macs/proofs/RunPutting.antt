@@ -1,5 +1,5 @@
 -- What putting one node more makes of a level, over plain variables.
-use Rattle.std.proofs.Common.{◌≡◌, ℕ, zero, suc, ◌+◌, ◌-◌, ◌*◌, ◌<◌, ◌≤◌, Bool, true, false, ◌==◌, ◌&&◌, nat_lt, get_or, List, [], ◌∷◌, ◌++◌, length, map, take, drop, replicate, refl, sym, ap, subst, ◌∙◌, arith, Option, Some, None, Result, Ok, Err, if◌then◌else◌}
+use Rattle.std.proofs.Common.{◌≡◌, ℕ, suc, ◌+◌, ◌-◌, ◌<◌, ◌≤◌, Bool, true, false, ◌==◌, ◌&&◌, nat_lt, get_or, List, [], ◌∷◌, ◌++◌, length, map, take, drop, replicate, refl, sym, ap, subst, ◌∙◌, arith, Option, None, Result, Ok, Err, if◌then◌else◌}
 use Rattle.std.specs.Prelude.{IfOk, IfErr}
 use Rattle.std.specs.Cmp.Lexicographic.{pointwise}
 use Rattle.std.specs.Option.{option_eq}
@@ -8,10 +8,10 @@ use Rattle.shelf_store.specs.ShelfState.{ShelfState}
 use Rattle.indirect_macs.specs.declared.refs.BlockRef.{BlockRef}
 use Rattle.indirect_macs.specs.declared.refs.NodeRef.{NodeRef}
 use Rattle.indirect_macs.specs.declared.refs.MacError.{MacError}
-use Rattle.indirect_macs.specs.declared.refs.MacError.TheVariants.{MacFailed, ShelfFault, Full, NoMemory}
+use Rattle.indirect_macs.specs.declared.refs.MacError.TheVariants.{NoMemory}
 use Rattle.indirect_macs.specs.Runs.{Run, Old, Made, Node, entries_at, target, new_ref, new_node, kept, leaf_of, inner_of, same_block, same_node, ref_with, puts_with, begun, nodes_made, levels_made, count_at, first_at, or_hole}
 use Rattle.indirect_macs.specs.Steps.{IsRange, Puts, HasPut, added}
-use Rattle.indirect_macs.proofs.Putting.{put_all, next_address, has_put, put_no_memory, put_front_of, same_puts}
+use Rattle.indirect_macs.proofs.Putting.{put_all, next_address, put_no_memory, put_front_of, same_puts}
 use Rattle.indirect_macs.proofs.RunMade.{whole_front, nodes_front, nodes_raised, begun_refs}
 use Rattle.indirect_macs.proofs.RunReading.{if_ok}
 use Rattle.indirect_macs.proofs.Spans.{one_of_range}
@@ -54,16 +54,20 @@ add_done base reads node made_node stays made_stays x made refs after start old 
     let same : Puts {X = Unit {0}} reads (puts_with node stays made.puts) (Ok done) start new = same_puts reads (puts_with node stays made.puts) x done start new puts in
     (pushed ∙ rw (refs_is, value, address, is, stay) refl, rw (is, stay) at same)
 add_done base reads node made_node stays made_stays x made refs after start old new (Err stop) is stay at refs_is had value puts pushed gone =
-    let same : HasPut reads (puts_with node stays made.puts) start new = same_puts reads (puts_with node stays made.puts) x tt start new puts in
-    (tt, subst (λ (e : MacError). Puts {X = Unit {0}} reads (puts_with made_node made_stays made.puts) (Err e) start new) (sym gone)
-    (rw (is, stay) at (put_no_memory {X = Unit {0}} reads (puts_with node stays made.puts) (puts_with node stays made.puts) start new (whole_front (puts_with node stays made.puts)) same)))
+    let same : HasPut reads (puts_with node stays made.puts) start new = same_puts reads (puts_with node stays made.puts) x tt start new puts in (
+      tt,
+      subst (λ (e : MacError). Puts {X = Unit {0}} reads (puts_with made_node made_stays made.puts) (Err e) start new) (sym gone)
+          (rw (is, stay) at (put_no_memory {X = Unit {0}} reads (puts_with node stays made.puts) (puts_with node stays made.puts) start new (whole_front (puts_with node stays made.puts)) same)),
+    )
 
 pub add_stopped : (reads : ℕ) (node made_node : Node) (stays made_stays : Option NodeRef) (made : Made) (stop : MacError) (start new : ShelfState)
     → node ≡ made_node → stays ≡ made_stays → Puts {X = Option NodeRef} reads (puts_with node stays made.puts) (Err stop) start new
     → Unit {0} × Puts {X = Unit {0}} reads (puts_with made_node made_stays made.puts) (Err stop) start new
-add_stopped reads node made_node stays made_stays made stop start new is stay puts =
-    (tt, rw (is, stay) at (put_front_of {X = Option NodeRef} {Y = Unit {0}} reads (puts_with node stays made.puts) (puts_with node stays made.puts) stop start new
-    (whole_front (puts_with node stays made.puts)) puts))
+add_stopped reads node made_node stays made_stays made stop start new is stay puts = (
+  tt,
+  rw (is, stay) at (put_front_of {X = Option NodeRef} {Y = Unit {0}} reads (puts_with node stays made.puts) (puts_with node stays made.puts) stop start new
+      (whole_front (puts_with node stays made.puts)) puts),
+)
 
 pub raised_put : (run : Run) (base level reads : ℕ) (made : Made) (entries : List (Option NodeRef)) (result : Result (Option NodeRef) MacError) (start old new : ShelfState)
     → (nat_lt run.levels level && nat_lt 0 (first_at run level)) ≡ true → entries ≡ made.raised ∷ replicate 31 None → base ≡ length start.sizes → HasPut reads made.puts start old
@@ -158,3 +162,18 @@ leaves_stop X Y run old base reads n index stop start new at few puts =
 
 pub map_part : {X Y : Type 0} (f : X → Y) (n k : ℕ) (xs : List X) → map f (take n (drop k xs)) ≡ take n (drop k (map f xs))
 map_part f n k xs = sym (take-map f n (drop k xs)) ∙ ap (take n) (sym (drop-map f k xs))
+
+pub leaf_added : (run : Run) (old : Old) (base index : ℕ) (one other made : Made)
+    → added base (new_node run old 1 one index) (kept run old 1 one index) made ≡ added base (new_node run old 1 other index) (kept run old 1 other index) made
+unfolding new_node kept
+leaf_added run old base index one other made = refl
+
+pub puts_any : (X Y : Type 0) (reads : ℕ) (whole : List (List ℕ)) (stop : MacError) (start new : ShelfState) → Puts {X = X} reads whole (Err stop) start new → Puts {X = Y} reads whole (Err stop) start new
+puts_any X Y reads whole stop start new puts = put_front_of {X = X} {Y = Y} reads whole whole stop start new (whole_front whole) puts
+
+pub level_stop : (X Y : Type 0) (run : Run) (old : Old) (base level reads count : ℕ) (below : Made) (stop : MacError) (start new : ShelfState)
+    → Puts {X = X} reads (begun run base level below).puts (Err stop) start new → Puts {X = Y} reads (nodes_made run old base level below count).puts (Err stop) start new
+unfolding nodes_made
+level_stop X Y run old base level reads count below stop start new puts =
+    put_front_of {X = X} {Y = Y} reads (begun run base level below).puts (nodes_made run old base level below count).puts stop start new
+    (nodes_front run old base level below 0 count (omega arith)) puts

@@ -1,8 +1,7 @@
 -- What the reading of a touched node gives of the old tree, over plain variables.
-use Rattle.std.proofs.Common.{◌≡◌, ℕ, zero, suc, ◌+◌, ◌-◌, ◌*◌, ◌/◌, ◌%◌, ◌^◌, ◌<◌, ◌≤◌, Bool, true, false, ◌==◌, List, [], ◌∷◌, ◌++◌, length, map, replicate, get_or, refl, sym, ap, subst, ◌∙◌, inl, inr, arith, Option, Some, None, Result, Ok, Err, if◌then◌else◌}
-use Rattle.std.specs.Prelude.{IfSome, IfOk, IfErr, IsOk, ⊤}
+use Rattle.std.proofs.Common.{◌≡◌, ℕ, zero, suc, ◌+◌, ◌-◌, ◌*◌, ◌/◌, ◌%◌, ◌^◌, ◌<◌, ◌≤◌, Bool, true, false, ◌==◌, List, ◌∷◌, ◌++◌, length, map, replicate, get_or, refl, sym, ap, subst, ◌∙◌, inl, inr, arith, Option, Some, None, Result, Ok, Err, if◌then◌else◌}
+use Rattle.std.specs.Prelude.{IfSome, IfOk, IfErr, ⊤}
 use Rattle.std.specs.Option.{option_map_or}
-use Rattle.std.specs.List.{range_with_len}
 use Rattle.std.proofs.lemmas.Bool.{cases_lt, ne_eqb}
 use Rattle.std.proofs.lemmas.List.{length-replicate}
 use Rattle.std.proofs.lemmas.List.FromFn.{fill_by_all}
@@ -13,10 +12,10 @@ use Rattle.indirect_macs.specs.declared.refs.MacError.{MacError}
 use Rattle.indirect_macs.specs.declared.refs.MacError.TheVariants.{MacFailed, ShelfFault, Full, NoMemory}
 use Rattle.indirect_macs.specs.Entries.{node_at, block_at}
 use Rattle.indirect_macs.specs.Nodes.{slots, entry_at}
-use Rattle.indirect_macs.specs.Walk.{passed, goes_on, walk, next_block, fails_at, tested, place_of, slot_of}
+use Rattle.indirect_macs.specs.Walk.{passed, goes_on, walk, next_block, fails_at, tested}
 use Rattle.indirect_macs.specs.Calls.{Gave, Answers, IsOver, fails_within, is_fault}
-use Rattle.indirect_macs.specs.Runs.{Run, Old, first_at, old_of, child_of, found_below, found_at, walk_to, entries_at, or_hole}
-use Rattle.indirect_macs.specs.Steps.{Reads, IsRange, IsLeaf, StopsAt, IsLeafAdded, IsStop, spread, AllWalk, FirstOf, IsMacFailed, failure_of}
+use Rattle.indirect_macs.specs.Runs.{Run, first_at, old_of, child_of, found_below, found_at, walk_to, entries_at, or_hole}
+use Rattle.indirect_macs.specs.Steps.{Reads, IsRange, IsLeaf, StopsAt, IsLeafAdded, IsStop, spread, AllWalk, IsMacFailed, failure_of}
 use Rattle.indirect_macs.proofs.Walking.{after_more, fails_more, held_kept}
 use Rattle.indirect_macs.proofs.Reading.{both}
 use Rattle.indirect_macs.proofs.Spans.{more_entries, one_of_range}
@@ -200,18 +199,20 @@ pub leaf_none : (held : List (List ℕ)) (record_size : ℕ) (run : Run) (index 
     → IsLeaf held record_size run index (Ok (let none : Option BlockRef = None in replicate 32 none))
 unfolding old_of
 leaf_none held record_size run index above is =
-    let none : Option BlockRef = None in
-    (same_all none (λ slot. or_hole (walk_to held record_size run (32 * index + slot))) (λ k within.
-    sym (rw (leaf_walk held record_size run index k above within, is, walk_none held record_size (32 * index + k) 0) refl)),
-    rw (leaf_first held record_size run index above, is, walk_none held record_size (32 * index) 0) refl)
+    let none : Option BlockRef = None in (
+      same_all none (λ slot. or_hole (walk_to held record_size run (32 * index + slot))) (λ k within.
+          sym (rw (leaf_walk held record_size run index k above within, is, walk_none held record_size (32 * index + k) 0) refl)),
+      rw (leaf_first held record_size run index above, is, walk_none held record_size (32 * index) 0) refl,
+    )
 
 pub leaf_read : (held : List (List ℕ)) (record_size : ℕ) (run : Run) (index : ℕ) (node : NodeRef) (bytes : List ℕ) → 1 ≤ run.levels → found_at held record_size run 1 index ≡ Ok (Some node)
     → passed held record_size 1 node ≡ Some bytes → IsLeaf held record_size run index (Ok (map (λ slot. block_at (entry_at 1 bytes slot)) slots))
 unfolding old_of slots
-leaf_read held record_size run index node bytes above is passes =
-    (map_same (λ slot. block_at (entry_at 1 bytes slot)) (λ slot. or_hole (walk_to held record_size run (32 * index + slot))) 32 (λ k within.
-    sym (rw (leaf_walk held record_size run index k above within, is, walk_last held record_size (32 * index + k) node bytes passes, lowest_slot index k within) refl)),
-    rw (leaf_first held record_size run index above, is, walk_last held record_size (32 * index) node bytes passes) refl)
+leaf_read held record_size run index node bytes above is passes = (
+  map_same (λ slot. block_at (entry_at 1 bytes slot)) (λ slot. or_hole (walk_to held record_size run (32 * index + slot))) 32 (λ k within.
+      sym (rw (leaf_walk held record_size run index k above within, is, walk_last held record_size (32 * index + k) node bytes passes, lowest_slot index k within) refl)),
+  rw (leaf_first held record_size run index above, is, walk_last held record_size (32 * index) node bytes passes) refl,
+)
 
 pub leaf_failed : (held : List (List ℕ)) (record_size : ℕ) (run : Run) (index : ℕ) (stop : MacError) → 1 ≤ run.levels → IsMacFailed stop → found_at held record_size run 1 index ≡ Err stop
     → IsLeaf held record_size run index (Err stop)
@@ -233,6 +234,7 @@ found_is held record_size levels top (suc depth) index = by_found (found_below h
     by_bytes : (f : List ℕ → Option NodeRef) (level place : ℕ) (bytes : Option (List ℕ)) → IsFound (option_map_or (λ b. Ok (f b)) bytes (Err (MacFailed level place)))
     by_bytes f level place None = tt
     by_bytes f level place (Some bytes) = tt
+
     by_found : (found : Result (Option NodeRef) MacError) → IsFound found
         → IsFound (goes_on (λ above. child_of held record_size (levels - depth) index above) (λ failed. Err failed) found)
     by_found (Ok None) is = tt
@@ -291,7 +293,6 @@ leaf_stops held record_size run index place calls node ShelfFault s t above is o
 leaf_stops held record_size run index place calls node Full s t above is over fine gave = absurd fine
 leaf_stops held record_size run index place calls node NoMemory s t above is over fine gave = tt
 
-
 pub over_one : (levels place : ℕ) (stop : MacError) → IsOver levels place stop → IsOver1 stop
 over_one levels place (MacFailed level at) over = tt
 over_one levels place ShelfFault over = tt
@@ -313,7 +314,7 @@ pub record AreBlocks (block : ℕ) (run : Run) (i : ℕ) (old : List (Result (Op
   pub told : IfSome start.held (λ held. IsRange (found_at held block run 1) (first_at run 1) (length old) old
       → IsRange (old_of held block run).block (32 * first_at run 1) (32 * i) blocks × AllWalk held block run (first_at run 1) i)
 
-held_same : (n : ℕ) (fault : Bool) (s t : ShelfState) → Reads n fault s t → t.held ≡ s.held
+pub held_same : (n : ℕ) (fault : Bool) (s t : ShelfState) → Reads n fault s t → t.held ≡ s.held
 held_same n fault s t reads = ap (λ (state : ShelfState). state.held) reads.after ∙ held_kept reads.calls s
 
 -- one more node
@@ -350,15 +351,16 @@ blocks_more block run i index old blocks after found x s t u so place within is 
       told = both s.held so.told told_s (λ held before this range.
           let own : found ≡ found_at held block run 1 index =
           is ∙ one_of_range (found_at held block run 1) (first_at run 1) (length old) i old (Ok None) within range ∙ ap (found_at held block run 1) (sym place) in
-          let leaf = this own in
-          (rw (leaf.0, place) (more_entries (old_of held block run).block (first_at run 1) i blocks
-          (entries_at (old_of held block run).block (first_at run 1 + i)) (before range).0 refl),
-          λ j low high. elim (cases_lt j (first_at run 1 + i)) [
-            | inl less ↦ (before range).1 j low less
-            | inr last ↦
-                let same : j ≡ index = omega (arith, place, high, last) in
-                rw same leaf.1
-          ]));
+          let leaf = this own in (
+            rw (leaf.0, place) (more_entries (old_of held block run).block (first_at run 1) i blocks
+                (entries_at (old_of held block run).block (first_at run 1 + i)) (before range).0 refl),
+            λ j low high. elim (cases_lt j (first_at run 1 + i)) [
+              | inl less ↦ (before range).1 j low less
+              | inr last ↦
+                  let same : j ≡ index = omega (arith, place, high, last) in
+                  rw same leaf.1
+            ],
+          ));
     }
 
 -- a node that ends the reading

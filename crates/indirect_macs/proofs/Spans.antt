@@ -1,8 +1,8 @@
 -- Ranges of places.
-use Rattle.std.proofs.Common.{◌≡◌, ℕ, zero, suc, ◌+◌, ◌-◌, ◌*◌, ◌/◌, ◌^◌, ◌<◌, ◌≤◌, List, [], ◌∷◌, ◌++◌, length, map, take, drop, refl, sym, ap, ◌∙◌, arith, get_or}
+use Rattle.std.proofs.Common.{◌≡◌, ℕ, zero, suc, ◌+◌, ◌-◌, ◌*◌, ◌<◌, ◌≤◌, List, ◌∷◌, ◌++◌, length, map, take, drop, refl, sym, ap, ◌∙◌, arith, get_or}
 use Rattle.std.specs.List.{range_with_len}
-use Rattle.std.proofs.lemmas.List.{map-append, take_all}
-use Rattle.std.proofs.lemmas.List.FromFn.{length-map-range_with_len, take-map-range_with_len, get_or-map-range_with_len, fill_by_all}
+use Rattle.std.proofs.lemmas.List.{map-append}
+use Rattle.std.proofs.lemmas.List.FromFn.{take-map-range_with_len, get_or-map-range_with_len, fill_by_all}
 use Rattle.indirect_macs.specs.Steps.{IsRange}
 use Rattle.indirect_macs.specs.Nodes.{slots}
 use Rattle.indirect_macs.specs.Runs.{entries_at}
@@ -21,7 +21,7 @@ map_split : {X : Type 0} (f : ℕ → X) (a n m : ℕ) → map f (range_with_len
 map_split f a n m = ap (map f) (range_split a n m) ∙ map-append f (range_with_len a n) (range_with_len (a + n) m)
 
 -- the entries of a node are a range
-moved : {X : Type 0} (f : ℕ → X) (a b n : ℕ) → map (λ k. f (a + k)) (range_with_len b n) ≡ map f (range_with_len (a + b) n)
+pub moved : {X : Type 0} (f : ℕ → X) (a b n : ℕ) → map (λ k. f (a + k)) (range_with_len b n) ≡ map f (range_with_len (a + b) n)
 moved f a b zero = refl
 moved f a b (suc n) =
     let next : a + (b + 1) ≡ a + b + 1 = omega arith in

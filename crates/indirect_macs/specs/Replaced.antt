@@ -1,5 +1,5 @@
 -- What putting a run of references into a tree leaves of the shelf, and what it answers.
-use Rattle.std.specs.Prelude.{ℕ, ◌+◌, ◌<◌, ◌≤◌, ◌≡◌, List, [], ◌∷◌, ◌++◌, length, map, sum, Option, Result, Ok, Err, IfSome, ⊤}
+use Rattle.std.specs.Prelude.{ℕ, ◌+◌, ◌<◌, ◌≤◌, ◌≡◌, List, [], ◌∷◌, ◌++◌, length, map, sum, Result, Ok, Err, ⊤}
 use Rattle.std.specs.Option.{option_map}
 use Rattle.shelf_store.specs.declared.shelf.TheConstants.{SHELF_BYTES}
 use Rattle.shelf_store.specs.ShelfState.{ShelfState, after_calls}
@@ -7,7 +7,7 @@ use Rattle.indirect_macs.specs.declared.refs.ObjTree.{ObjTree}
 use Rattle.indirect_macs.specs.declared.refs.MacError.{MacError}
 use Rattle.indirect_macs.specs.declared.refs.MacError.TheVariants.{MacFailed, ShelfFault, Full, NoMemory}
 use Rattle.indirect_macs.specs.Calls.{fails_within, is_fault}
-use Rattle.indirect_macs.specs.Runs.{Run, Old, old_of, puts_of, tree_of, Passes, FirstFails, most_reads, most_puts}
+use Rattle.indirect_macs.specs.Runs.{Run, old_of, puts_of, tree_of, Passes, FirstFails, most_reads}
 
 -- these blocks were put at the end
 abbrev pub with_blocks : List (List ℕ) → ShelfState → ShelfState

@@ -1,5 +1,5 @@
 -- What the steps of putting a run into a tree leave of a shelf.
-use Rattle.std.specs.Prelude.{ℕ, ◌+◌, ◌-◌, ◌*◌, ◌<◌, ◌≤◌, ◌≡◌, Bool, true, false, List, [], ◌∷◌, ◌++◌, length, map, replicate, min, IfOk, Option, Some, None, Result, Ok, Err, IsOk, ⊤}
+use Rattle.std.specs.Prelude.{ℕ, ◌+◌, ◌-◌, ◌*◌, ◌<◌, ◌≤◌, ◌≡◌, Bool, List, [], ◌∷◌, ◌++◌, length, map, replicate, IfOk, Option, Some, None, Result, Ok, Err, IsOk, ⊤}
 use Rattle.std.specs.List.{range_with_len}
 use Rattle.shelf_store.specs.ShelfState.{ShelfState, after_calls}
 use Rattle.indirect_macs.specs.declared.refs.BlockRef.{BlockRef}
@@ -8,7 +8,7 @@ use Rattle.indirect_macs.specs.declared.refs.MacError.{MacError}
 use Rattle.indirect_macs.specs.declared.refs.MacError.TheVariants.{MacFailed, ShelfFault, Full, NoMemory}
 use Rattle.indirect_macs.specs.Calls.{fails_within, is_fault}
 use Rattle.indirect_macs.specs.Replaced.{with_blocks, IsTooMuch}
-use Rattle.indirect_macs.specs.Runs.{Run, Old, Made, Node, ref_with, puts_with, count_at, first_at, levels_for, levels_made, touched_below, old_of, entries_at, or_hole, walk_to, found_at}
+use Rattle.indirect_macs.specs.Runs.{Run, Old, Made, Node, ref_with, puts_with, count_at, first_at, old_of, entries_at, or_hole, walk_to}
 
 -- some calls were made, at most so many, of which one was the armed one or not; nothing was put
 pub record Reads (most : ℕ) (fault : Bool) (old new : ShelfState) : Type 0 where
@@ -120,25 +120,26 @@ abbrev pub LevelsPut : {X : Type 0} → (X → List (Option NodeRef)) → (X →
 LevelsPut refs raised reads made result old new =
     IfOk result (λ x. (refs x ≡ made.refs) × (raised x ≡ made.raised)) × Puts reads made.puts result old new
 
--- the levels up to one were read, and those of the new tree put; or the first walk that fails was found before
-abbrev pub LevelsRun : {X : Type 0} → (X → List (Option NodeRef)) → (X → Option NodeRef) → (held : List (List ℕ)) → (record_size : ℕ) → Run → (level : ℕ) → Result X MacError → (old new : ShelfState) → Type 0
-LevelsRun refs raised held record_size run level (Ok x) old new =
-    LevelsPut refs raised (touched_below run (min level run.levels))
-    (levels_made run (old_of held record_size run) (length old.sizes) (min level (levels_for run.blocks))) (Ok x) old new
-    × AllWalk held record_size run (first_at run 1) (count_at run 1)
-LevelsRun refs raised held record_size run level (Err (MacFailed k place)) old new =
-    FirstOf held record_size run (first_at run 1) (count_at run 1) (MacFailed k place)
-    × Reads (touched_below run (min level run.levels)) false old new
-LevelsRun refs raised held record_size run level (Err Full) old new =
-    LevelsPut refs raised (touched_below run (min level run.levels))
-    (levels_made run (old_of held record_size run) (length old.sizes) (min level (levels_for run.blocks))) (Err Full) old new
-    × AllWalk held record_size run (first_at run 1) (count_at run 1)
-LevelsRun refs raised held record_size run level (Err ShelfFault) old new =
-    LevelsPut refs raised (touched_below run (min level run.levels))
-    (levels_made run (old_of held record_size run) (length old.sizes) (min level (levels_for run.blocks))) (Err ShelfFault) old new
-LevelsRun refs raised held record_size run level (Err NoMemory) old new =
-    LevelsPut refs raised (touched_below run (min level run.levels))
-    (levels_made run (old_of held record_size run) (length old.sizes) (min level (levels_for run.blocks))) (Err NoMemory) old new
+-- what an answer says of the nodes that weren't put
+abbrev pub LevelsEnded : {X : Type 0} → (X → List (Option NodeRef)) → (X → Option NodeRef) → (held : List (List ℕ)) → (record_size : ℕ) → Run → Made → (put rest : List (List ℕ)) → Result X MacError → ShelfState → Type 0
+LevelsEnded refs raised held record_size run made put rest (Ok x) new =
+    (rest ≡ []) × (refs x ≡ made.refs) × (raised x ≡ made.raised) × AllWalk held record_size run (first_at run 1) (count_at run 1)
+LevelsEnded refs raised held record_size run made put rest (Err (MacFailed level place)) new =
+    (put ≡ []) × FirstOf held record_size run (first_at run 1) (count_at run 1) (MacFailed level place)
+LevelsEnded refs raised held record_size run made put rest (Err Full) new = IsTooMuch rest new × AllWalk held record_size run (first_at run 1) (count_at run 1)
+LevelsEnded refs raised held record_size run made put rest (Err ShelfFault) new = ⊤
+LevelsEnded refs raised held record_size run made put rest (Err NoMemory) new = ⊤
+
+-- levels were read, and those of the new tree put, or a front of them; or the first walk that fails was found before
+pub record LevelsRun {X : Type 0} (refs : X → List (Option NodeRef)) (raised : X → Option NodeRef) (held : List (List ℕ)) (record_size : ℕ) (run : Run) (reads : ℕ) (made : Made) (result : Result X MacError) (old new : ShelfState) : Type 0 where
+  pub calls : ℕ
+  pub put : List (List ℕ)
+  pub rest : List (List ℕ)
+  pub parts : put ++ rest ≡ made.puts
+  pub bound : calls ≤ reads + length made.puts
+  pub after : new ≡ after_calls calls (with_blocks put old)
+  pub fault : is_fault result ≡ fails_within calls old.armed
+  pub ended : LevelsEnded refs raised held record_size run made put rest result new
 
 -- one more node of a level
 abbrev pub added : (base : ℕ) → Node → Option NodeRef → Made → Made

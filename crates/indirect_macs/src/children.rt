@@ -117,7 +117,14 @@ fn found_in<B: Shelf>(
         IfOk result (λ found. found ≡ entries_at (λ i. child_of held run.now.block level i (Some node.now)) index)) }
 {
     let mut bytes = [0; ENTRIES * NODE_ENTRY_LEN];
-    match read_node(shelf, node, level, block_over(level, index), run.block, &mut bytes) {
+    match read_node(
+        shelf,
+        node,
+        level,
+        block_over(level, index),
+        run.block,
+        &mut bytes,
+    ) {
         Ok(()) => Ok(refs_in(&bytes)),
         Err(stop) => spread(stop),
     }
@@ -158,6 +165,7 @@ fn found_below<B: Shelf>(
     requires fits { index * 32 ^ level < 2 ^ 32 }
     ensures reads { Reads 1 (is_fault result) (B.told shelf.old) (B.told shelf.new) }
     ensures hole { run.now.tree.levels < level → B.told shelf.new ≡ B.told shelf.old }
+    ensures quiet { run.now.tree.levels < level → is_fault result ≡ false }
     ensures stops { IfErr result IsStop }
     ensures told { IfSome (B.told shelf.old).held (λ held. found.now ≡ found_at held run.now.block (run_of run.now) level index
         → IfOk result (λ found. found ≡ entries_at (found_at held run.now.block (run_of run.now) (level - 1)) index)) }
@@ -195,6 +203,7 @@ fn add_children<B: Shelf>(
     requires fits { index * 32 ^ level < 2 ^ 32 }
     ensures reads { Reads 1 (is_fault result) (B.told shelf.old) (B.told shelf.new) }
     ensures hole { run.now.tree.levels < level → B.told shelf.new ≡ B.told shelf.old }
+    ensures quiet { run.now.tree.levels < level → is_fault result ≡ false }
     ensures stops { IfErr result IsStop }
     ensures size { IfOk result (λ _. length children.new.items ≡ length children.old.items + 32) }
     ensures told { IfSome (B.told shelf.old).held (λ held. found.now ≡ found_at held run.now.block (run_of run.now) level index
@@ -219,6 +228,7 @@ pub fn read_children<B: Shelf>(
     requires count { length old.now ≡ count_at (run_of run.now) level }
     ensures reads { Reads (length old.now) (is_fault result) (B.told shelf.old) (B.told shelf.new) }
     ensures hole { run.now.tree.levels < level → B.told shelf.new ≡ B.told shelf.old }
+    ensures quiet { run.now.tree.levels < level → is_fault result ≡ false }
     ensures stops { IfErr result IsStop }
     ensures size { IfOk result (λ children. length children.items ≡ 32 * length old.now) }
     ensures told { IfSome (B.told shelf.old).held (λ held.
@@ -229,7 +239,14 @@ pub fn read_children<B: Shelf>(
     let first = first_at(run, level);
     let mut children = Vec::new(alloc);
     'nodes: for i in 0..old.len() {
-        if let Err(stop) = add_children(run, shelf, level, first + i as u32, &old[i], &mut children) {
+        if let Err(stop) = add_children(
+            run,
+            shelf,
+            level,
+            first + i as u32,
+            &old[i],
+            &mut children,
+        ) {
             return Err(stop);
         }
     }

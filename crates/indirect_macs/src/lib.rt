@@ -13,9 +13,9 @@ mod node;
 mod refs;
 mod replace;
 mod run;
+mod run_laws;
 mod span;
 mod stored;
-mod run_laws;
 mod walk;
 
 pub use fold::fold_mac;
@@ -23,8 +23,8 @@ pub use laws::{
     block_nodes_have_one_spelling, ref_nodes_have_one_spelling, walks_stay_when_the_shelf_grows,
     walks_stop_at_the_first_place_that_fails,
 };
-pub use replace::replace_run;
 pub use refs::{BlockRef, MacError, NodeRef, ObjTree};
+pub use replace::replace_run;
 pub use run_laws::{
     runs_by_hand, runs_change_their_blocks_alone, runs_keep_bytes, runs_keep_older_trees,
     runs_keep_trees, runs_put_only_changes, runs_touch_few_nodes, tops_are_folds,

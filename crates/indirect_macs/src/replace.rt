@@ -220,7 +220,12 @@ fn add_inner<B: Shelf>(
 {
     let children = old_refs(before);
     let entries = new_refs(run, level, below, index, &children);
-    match put_inner(shelf, level, &entries, &kept(same_refs(&children, &entries), old)) {
+    match put_inner(
+        shelf,
+        level,
+        &entries,
+        &kept(same_refs(&children, &entries), old),
+    ) {
         Ok(node) => push(refs, node),
         Err(stop) => Err(stop),
     }
@@ -303,7 +308,16 @@ fn put_nodes<B: Shelf>(
     let mut refs = Vec::new(alloc);
     'nodes: for i in 0..old.len() {
         let before = &children[ENTRIES * i..ENTRIES * i + ENTRIES];
-        if let Err(stop) = add_inner(run, shelf, level, first + i as u32, &old[i], before, below, &mut refs) {
+        if let Err(stop) = add_inner(
+            run,
+            shelf,
+            level,
+            first + i as u32,
+            &old[i],
+            before,
+            below,
+            &mut refs,
+        ) {
             return Err(stop);
         }
     }
@@ -370,7 +384,9 @@ fn replace_levels<B: Shelf>(
     requires count { length old.now ≡ count_at (run_of run.now) level }
     ensures told { IfSome (B.told shelf.old).held (λ held.
         IsRange (found_at held run.now.block (run_of run.now) level) (first_at (run_of run.now) level) (length old.now) old.now
-        → LevelsRun (λ made. made.refs.items) (λ made. made.raised) held run.now.block (run_of run.now) level result (B.told shelf.old) (B.told shelf.new)) }
+        → LevelsRun (λ made. made.refs.items) (λ made. made.raised) held run.now.block (run_of run.now) (touched_below (run_of run.now) (min level run.now.tree.levels))
+        (levels_made (run_of run.now) (old_of held run.now.block (run_of run.now)) (length (B.told shelf.old).sizes) (min level (levels_for run.now.blocks)))
+        result (B.told shelf.old) (B.told shelf.new)) }
     ensures changes { Changes (touched_below (run_of run.now) (min level run.now.tree.levels))
         (touched_below (run_of run.now) (min level (levels_for run.now.blocks)) + raised_below (run_of run.now) (min level (levels_for run.now.blocks)))
         result (B.told shelf.old) (B.told shelf.new) }
@@ -394,6 +410,13 @@ fn replace_levels<B: Shelf>(
         return Ok(below);
     }
     put_level(alloc, run, shelf, level, old, &children, &below)
+}
+
+// What stands at the first place of a level, of the old top's or above.
+fn old_top(tree: &ObjTree, level: u8) -> Option<NodeRef>
+    ensures { result ≡ (if nat_lt tree.now.levels level then None else tree.now.top) }
+{
+    if level > tree.levels { None } else { tree.top }
 }
 
 /// The tree with a run of references put in, of `blocks` blocks in all.
@@ -440,8 +463,8 @@ pub fn replace_run<B: Shelf>(
         refs,
         block,
     };
-    let top = if levels > tree.levels { None } else { tree.top };
-    match replace_levels(alloc, &run, shelf, levels.max(tree.levels), &[Ok(top)]) {
+    let highest = levels.max(tree.levels);
+    match replace_levels(alloc, &run, shelf, highest, &[Ok(old_top(tree, highest))]) {
         Ok(made) => Ok(ObjTree {
             levels,
             top: made.refs[0],

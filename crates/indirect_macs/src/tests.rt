@@ -1,4 +1,4 @@
-use crate::{BlockRef, MacError, NodeRef, ObjTree, fold_mac, lookup};
+use crate::{BlockRef, MacError, NodeRef, ObjTree, fold_mac, lookup, replace_run};
 use shelf_store::{MemShelf, Shelf};
 use std::test::Fail;
 
@@ -120,5 +120,31 @@ fn a_node_that_is_not_there_is_not_read(rt: HostRuntime) -> Result<(), Fail> {
         lookup(&TREE, &mut shelf, 33, 512),
         Err(MacError::ShelfFault)
     );
+    Ok(())
+}
+
+// A run of one block makes the tree above. A cut that loses the block leaves a hole, and puts nothing; so
+// does a run below a node that fails.
+#[test]
+fn runs_are_put_and_cut(rt: HostRuntime) -> Result<(), Fail> {
+    let alloc = rt.alloc();
+    let mut shelf = MemShelf::fresh(alloc)?;
+    let empty = ObjTree {
+        levels: 1,
+        top: None,
+    };
+    let put = replace_run(alloc, &empty, &mut shelf, 64, 33, &[Some(BLOCK)], 512);
+    assert_eq!(rt; put, Ok(TREE));
+    let cut = replace_run(alloc, &TREE, &mut shelf, 33, 33, &[], 512);
+    let hole = ObjTree {
+        levels: 2,
+        top: None,
+    };
+    assert_eq!(rt; cut, Ok(hole));
+    assert_eq!(rt; shelf.alter(0, 80, 1), Ok(()));
+    let failed = replace_run(alloc, &TREE, &mut shelf, 64, 34, &[Some(BLOCK)], 512);
+    let place = MacError::MacFailed { level: 1, index: 1 };
+    assert_eq!(rt; failed, Err(place));
+    assert_eq!(rt; shelf.blocks(), 2);
     Ok(())
 }

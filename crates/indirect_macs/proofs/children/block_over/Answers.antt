@@ -1,4 +1,4 @@
-use Rattle.std.proofs.Common.{◌≡◌, ◌*◌, ◌^◌, ◌%◌, ◌<◌, arith}
+use Rattle.std.proofs.Common.{◌*◌, ◌^◌, ◌<◌, arith}
 use Rattle.indirect_macs.proofs.Powers.{pow-32}
 use Rattle.indirect_macs.proofs.children.block_over.Goals as goal
 

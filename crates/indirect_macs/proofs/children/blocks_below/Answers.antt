@@ -1,6 +1,5 @@
-use Rattle.std.proofs.Common.{◌≡◌, ◌*◌, ◌^◌, sym, ap, ◌∙◌, arith, Some, None, Ok, Err}
+use Rattle.std.proofs.Common.{sym, ◌∙◌, arith, Some, None}
 use Rattle.indirect_macs.specs.RunFields.{run_of}
-use Rattle.indirect_macs.proofs.Reading.{both}
 use Rattle.std.proofs.lemmas.Option.{IfSome_then}
 use Rattle.indirect_macs.proofs.RunReading.{for_each_held, found_failure, found_ok, leaf_none, leaf_read, leaf_failed, leaf_stops, over_one}
 use Rattle.indirect_macs.proofs.children.blocks_below.Goals as goal

@@ -1,4 +1,4 @@
-use Rattle.std.proofs.Common.{◌≡◌, ◌+◌, ◌<◌, arith}
+use Rattle.std.proofs.Common.{arith}
 use Rattle.indirect_macs.specs.RunFields.{run_of}
 use Rattle.indirect_macs.proofs.RunReading.{above_first, above_none}
 use Rattle.indirect_macs.proofs.children.found_above.Goals as goal

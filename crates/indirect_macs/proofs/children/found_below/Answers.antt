@@ -1,7 +1,7 @@
-use Rattle.std.proofs.Common.{◌≡◌, ◌≤◌, Option, sym, ap, ◌∙◌, arith, Some, None, Ok, Err}
+use Rattle.std.proofs.Common.{sym, ◌∙◌, arith}
 use Rattle.std.proofs.lemmas.Option.{IfSome_then}
 use Rattle.indirect_macs.specs.RunFields.{run_of}
-use Rattle.indirect_macs.proofs.RunReading.{if_ok, below_failed, for_each_held}
+use Rattle.indirect_macs.proofs.RunReading.{below_failed, for_each_held}
 use Rattle.indirect_macs.proofs.children.found_below.Goals as goal
 
 pub returns-in-Ok-clause-told : goal.returns-in-Ok-clause-told

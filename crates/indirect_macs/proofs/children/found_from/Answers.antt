@@ -1,4 +1,4 @@
-use Rattle.std.proofs.Common.{◌≡◌, ◌≤◌, Option, sym, ap, ◌∙◌, arith, Some, None, Ok, Err}
+use Rattle.std.proofs.Common.{Option, sym, ap, ◌∙◌, arith, Ok}
 use Rattle.std.proofs.lemmas.Option.{IfSome_then}
 use Rattle.indirect_macs.specs.declared.refs.NodeRef.{NodeRef}
 use Rattle.indirect_macs.specs.RunFields.{run_of}

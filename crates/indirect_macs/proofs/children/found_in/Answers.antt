@@ -1,6 +1,5 @@
-use Rattle.std.proofs.Common.{◌≡◌, ℕ, ◌*◌, ◌/◌, ◌^◌, subst, sym, ap, ◌∙◌, arith, Some}
+use Rattle.std.proofs.Common.{ℕ, ◌/◌, ◌^◌, ap, ◌∙◌}
 use Rattle.std.proofs.lemmas.Option.{IfSome_then}
-use Rattle.indirect_macs.specs.Runs.{entries_at, child_of}
 use Rattle.indirect_macs.proofs.RunReading.{child_read, spread_reads, spread_stops, spread_told}
 use Rattle.indirect_macs.proofs.TreeFold.{first_under}
 use Rattle.indirect_macs.proofs.children.found_in.Goals as goal

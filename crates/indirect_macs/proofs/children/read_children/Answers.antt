@@ -1,9 +1,7 @@
-use Rattle.std.proofs.Common.{◌≡◌, ℕ, ◌+◌, ◌*◌, ◌^◌, ◌<◌, ◌≤◌, length, refl, sym, ap, ◌∙◌, subst, arith, Ok, Err, None}
-use Rattle.std.proofs.lemmas.Option.{IfSome_then}
+use Rattle.std.proofs.Common.{◌≡◌, ℕ, ◌+◌, length, refl, ap, arith}
 use Rattle.indirect_macs.specs.RunFields.{run_of}
-use Rattle.indirect_macs.specs.Runs.{first_at, count_at}
 use Rattle.indirect_macs.proofs.RunSpans.{count_small, last_at_small, touched_last, touched_fits}
-use Rattle.indirect_macs.proofs.RunReading.{reads_more, reads_wider, children_more, blocks_more, blocks_stop}
+use Rattle.indirect_macs.proofs.RunReading.{reads_more, reads_wider, children_more}
 use Rattle.indirect_macs.proofs.children.read_children.Goals as goal
 
 pub overflow_cast-i : goal.overflow_cast-i

@@ -1,6 +1,6 @@
-use Rattle.std.proofs.Common.{◌≡◌, ◌∙◌, refl, sym, ap, arith}
+use Rattle.std.proofs.Common.{◌∙◌, refl}
 use Rattle.indirect_macs.specs.RunFields.{run_of}
-use Rattle.indirect_macs.proofs.RunPutting.{leaf_node, leaf_kept, inner_node, inner_kept, add_done, add_stopped}
+use Rattle.indirect_macs.proofs.RunPutting.{inner_node, inner_kept, add_done, add_stopped}
 use Rattle.indirect_macs.proofs.replace.add_inner.Goals as goal
 
 pub returns-in-Ok : goal.returns-in-Ok

@@ -1,4 +1,4 @@
-use Rattle.std.proofs.Common.{◌≡◌, arith}
+use Rattle.std.proofs.Common.{arith}
 use Rattle.indirect_macs.proofs.Powers.{pow-32}
 use Rattle.indirect_macs.proofs.RunSpans.{behind}
 use Rattle.indirect_macs.proofs.replace.is_behind.Goals as goal

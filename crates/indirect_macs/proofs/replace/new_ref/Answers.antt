@@ -1,16 +1,23 @@
-use Rattle.std.proofs.Common.{◌≡◌, ◌≤◌, ◌<◌, ◌==◌, true, false, nat_le, nat_lt, length, get_or, ℕ, List, refl, sym, ap, ◌∙◌, arith, Option, None, ◌-◌}
+use Rattle.std.proofs.Common.{◌≡◌, ◌<◌, ◌==◌, true, false, nat_lt, length, get_or, ℕ, List, refl, sym, ap, ◌∙◌, arith, Option, None, ◌-◌}
 use Rattle.std.proofs.lemmas.Bool.{eq-eqb, ne_eqb}
 use Rattle.std.proofs.lemmas.List.{get_or_read}
 use Rattle.indirect_macs.specs.declared.refs.NodeRef.{NodeRef}
 use Rattle.indirect_macs.specs.RunFields.{run_of}
-use Rattle.indirect_macs.specs.Runs.{new_ref, first_at, last_at}
+use Rattle.indirect_macs.specs.Runs.{new_ref}
 use Rattle.indirect_macs.proofs.RunSpans.{count_is}
 use Rattle.indirect_macs.proofs.replace.new_ref.Goals as goal
 
 pub index-requires : goal.index-requires
 index-requires c =
-    omega (arith, c.is_touched.ensures.low c.if-is_touched.true, c.is_touched.ensures.high c.if-is_touched.true, c.requires.count, count_is (run_of c.args.run.now) c.args.level,
-    c.first_at.ensures, c.args.made.now.refs.ok.0)
+    omega (
+      arith,
+      c.is_touched.ensures.low c.if-is_touched.true,
+      c.is_touched.ensures.high c.if-is_touched.true,
+      c.requires.count,
+      count_is (run_of c.args.run.now) c.args.level,
+      c.first_at.ensures,
+      c.args.made.now.refs.ok.0,
+    )
 
 pub returns-then-is_behind : goal.returns-then-is_behind
 unfolding new_ref

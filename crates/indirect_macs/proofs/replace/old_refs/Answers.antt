@@ -1,4 +1,4 @@
-use Rattle.std.proofs.Common.{◌≡◌, ℕ, get_or, map, length, Ok, None, Option, Result, sym, ◌∙◌, arith, length-set}
+use Rattle.std.proofs.Common.{◌≡◌, ℕ, get_or, map, Ok, None, Option, Result, sym, ◌∙◌, arith, length-set}
 use Rattle.std.proofs.lemmas.List.{ext_get_or, get_or-map, length-map}
 use Rattle.std.proofs.lemmas.List.Edits.{fill_by_more}
 use Rattle.indirect_macs.specs.declared.refs.NodeRef.{NodeRef}
@@ -7,9 +7,11 @@ use Rattle.indirect_macs.specs.Runs.{or_hole}
 use Rattle.indirect_macs.proofs.replace.old_refs.Goals as goal
 
 pub entries-preserved : goal.entries-preserved
-entries-preserved c = (length-set c.entries.entries c.entries.slot _ ∙ c.entries.invariant.0,
-    let f : ℕ → Option NodeRef = λ k. or_hole (get_or c.args.old.now k (Ok None)) in
-    rw c.or_hole.ensures (fill_by_more f c.entries.entries c.entries.slot None (omega (arith, c.entries.invariant.0)) c.entries.invariant.1))
+entries-preserved c = (
+  length-set c.entries.entries c.entries.slot _ ∙ c.entries.invariant.0,
+  let f : ℕ → Option NodeRef = λ k. or_hole (get_or c.args.old.now k (Ok None)) in
+      rw c.or_hole.ensures (fill_by_more f c.entries.entries c.entries.slot None (omega (arith, c.entries.invariant.0)) c.entries.invariant.1),
+)
 
 pub returns : goal.returns
 returns c =

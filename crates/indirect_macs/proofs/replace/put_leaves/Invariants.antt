@@ -1,8 +1,8 @@
-use Rattle.std.proofs.Common.{◌≡◌, ℕ, ◌*◌, List, [], length, map}
+use Rattle.std.proofs.Common.{ℕ, ◌*◌, [], length, map}
 use Rattle.shelf_store.specs.ShelfState.{ShelfState}
 use Rattle.indirect_macs.specs.RunFields.{run_of}
-use Rattle.indirect_macs.specs.Runs.{Old, Made, begun, first_at, or_hole}
-use Rattle.indirect_macs.specs.Steps.{IsRange, HasPut, Knows}
+use Rattle.indirect_macs.specs.Runs.{Old, first_at, or_hole}
+use Rattle.indirect_macs.specs.Steps.{IsRange, HasPut}
 use Rattle.indirect_macs.proofs.RunPutting.{NodesPut, none_made}
 use Rattle.indirect_macs.proofs.replace.put_leaves.Given as goal
 

@@ -1,9 +1,9 @@
-use Rattle.std.proofs.Common.{◌≡◌, ℕ, ◌*◌, List, [], length, map}
+use Rattle.std.proofs.Common.{◌≡◌, ℕ, length}
 use Rattle.shelf_store.specs.ShelfState.{ShelfState}
 use Rattle.indirect_macs.specs.RunFields.{run_of}
-use Rattle.indirect_macs.specs.Runs.{Old, Made, begun, first_at, or_hole}
-use Rattle.indirect_macs.specs.Steps.{IsRange, HasPut, Knows}
-use Rattle.indirect_macs.proofs.RunPutting.{NodesPut, none_made}
+use Rattle.indirect_macs.specs.Runs.{Old, Made, begun, first_at}
+use Rattle.indirect_macs.specs.Steps.{HasPut, Knows}
+use Rattle.indirect_macs.proofs.RunPutting.{NodesPut}
 use Rattle.indirect_macs.proofs.replace.put_nodes.Given as goal
 
 -- what the nodes so far are, and what was put for them

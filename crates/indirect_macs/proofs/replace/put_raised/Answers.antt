@@ -1,4 +1,4 @@
-use Rattle.std.proofs.Common.{◌≡◌, ◌∙◌, refl, sym, ap, arith, ◌∷◌, replicate, None}
+use Rattle.std.proofs.Common.{◌∙◌, refl, sym, ap, ◌∷◌, replicate, None}
 use Rattle.indirect_macs.specs.RunFields.{run_of}
 use Rattle.indirect_macs.proofs.RunPutting.{raised_put, not_raised}
 use Rattle.indirect_macs.proofs.replace.put_raised.Goals as goal

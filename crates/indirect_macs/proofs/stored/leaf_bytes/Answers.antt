@@ -1,6 +1,5 @@
-use Rattle.std.proofs.Common.{◌≡◌, ◌+◌, ◌*◌, ◌-◌, refl, length, arith, None}
+use Rattle.std.proofs.Common.{refl, arith}
 use Rattle.indirect_macs.specs.Entries.{block_entry}
-use Rattle.indirect_macs.specs.Nodes.{block_node, ref_node}
 use Rattle.indirect_macs.proofs.Buffers.{filled_none, filled_part, filled_more, filled_all}
 use Rattle.indirect_macs.proofs.stored.leaf_bytes.Goals as goal
 

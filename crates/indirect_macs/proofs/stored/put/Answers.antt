@@ -1,7 +1,4 @@
-use Rattle.std.proofs.Common.{◌≡◌, Bool, true, false, sym, refl, ◌+◌, ◌<◌, length, subst, ap, arith, Err}
-use Rattle.std.specs.Prelude.{sum}
-use Rattle.shelf_store.specs.declared.shelf.TheConstants.{SHELF_BYTES}
-use Rattle.shelf_store.specs.ShelfState.{is_due}
+use Rattle.std.proofs.Common.{sym, ap, Err}
 use Rattle.indirect_macs.specs.declared.refs.MacError.TheVariants.{ShelfFault, Full, NoMemory}
 use Rattle.indirect_macs.proofs.Putting.{not_due, put_one, put_none}
 use Rattle.indirect_macs.proofs.stored.put.Goals as goal

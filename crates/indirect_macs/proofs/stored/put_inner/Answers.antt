@@ -1,4 +1,4 @@
-use Rattle.std.proofs.Common.{◌≡◌, sym, ◌∙◌, Some, None}
+use Rattle.std.proofs.Common.{sym, ◌∙◌, Some, None}
 use Rattle.indirect_macs.specs.Runs.{inner_of}
 use Rattle.indirect_macs.proofs.Putting.{ref_holes, ref_kept, ref_new, puts_holes, puts_kept, puts_done, puts_stopped}
 use Rattle.indirect_macs.proofs.stored.put_inner.Goals as goal

@@ -1,4 +1,4 @@
-use Rattle.std.proofs.Common.{ℕ, refl}
+use Rattle.std.proofs.Common.{ℕ}
 use Rattle.std.proofs.lemmas.List.{append-nil}
 use Rattle.indirect_macs.proofs.stored.put_ref.Goals as goal
 
