@@ -34,8 +34,11 @@ IsOver levels index ShelfFault = ⊤
 IsOver levels index Full = ⊥
 IsOver levels index NoMemory = ⊥
 
--- what an answer says on every shelf: some calls of the shelf were made, at most so many, and the answer is a failure of the shelf exactly where one of them was the armed one; else a failure names a place over the block
-pub record Answers {X : Type 0} (levels most index : ℕ) (result : Result X MacError) (old new : ShelfState) : Type 0 where
+-- what an answer says on every shelf: some calls of the shelf were made, at most so many, and the answer is a
+-- failure of the shelf exactly where one of them was the armed one; else a failure names a place over the
+-- block
+pub record Answers {X : Type 0} (levels most index : ℕ) (result : Result X MacError)
+    (old new : ShelfState) : Type 0 where
   pub calls : ℕ
   pub bound : calls ≤ most
   pub after : new ≡ after_calls calls old

@@ -1,4 +1,7 @@
--- The entries of stored nodes. An entry of a node of level 1 is a reference to a block, in 49 bytes: tag, size 4, address 8, salt 8, initialization vector 12, MAC 16. An entry of a node above is a reference to a node of the level below, in 25 bytes: tag, address 8, MAC 16. The tag is 1; a hole is zeros. Numbers have their lowest byte first.
+-- The entries of stored nodes. An entry of a node of level 1 is a reference to a block, in 49 bytes: tag,
+-- size 4, address 8, salt 8, initialization vector 12, MAC 16. An entry of a node above is a reference to a
+-- node of the level below, in 25 bytes: tag, address 8, MAC 16. The tag is 1; a hole is zeros. Numbers have
+-- their lowest byte first.
 use Rattle.std.specs.Prelude.{ℕ, ◌+◌, ◌^◌, ◌<◌, ◌≡◌, ◌==◌, ◌&&◌, ◌||◌, Bool, true, IsTrue, nat_le, if◌then◌else◌, List, ◌∷◌, ◌++◌, length, take, drop, replicate, slice_index, Option, Some, None}
 use Rattle.std.specs.List.{list_all}
 use Rattle.byte_fields.specs.LittleEndian.{little_endian_bytes, little_endian_value}
@@ -58,7 +61,8 @@ node_at entry =
 abbrev pub is_size : ℕ → ℕ → Bool
 is_size record_size size = nat_le 1 size && nat_le size record_size
 
--- the bytes are an entry of a node of this level, of blocks of at most the record size: all zeros, or with the tag 1, and at level 1 with a good size
+-- the bytes are an entry of a node of this level, of blocks of at most the record size: all zeros, or with
+-- the tag 1, and at level 1 with a good size
 unfoldable pub is_entry : (level record_size : ℕ) → List ℕ → Bool
 is_entry level record_size entry =
     list_all (λ byte. byte == 0) entry

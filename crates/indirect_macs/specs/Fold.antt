@@ -27,7 +27,8 @@ unfoldable pub group_macs : {A : Type 0} → (level : ℕ) → (Option A → Lis
 group_macs level under_mac entries =
     map (λ j. group_mac level under_mac (group_at entries j)) (range_with_len 0 (group_count (length entries)))
 
--- the MACs of the nodes of a level are folded until one is left. There are fewer further levels than nodes, which bounds the recursion
+-- the MACs of the nodes of a level are folded until one is left. There are fewer further levels than nodes,
+-- which bounds the recursion
 unfoldable pub folded : (more level : ℕ) → List (Option (List ℕ)) → Option (List ℕ)
 folded zero level macs = slice_index_or macs 0 None
 folded (suc more) level macs =

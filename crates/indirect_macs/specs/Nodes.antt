@@ -33,7 +33,8 @@ blocks_of node = map (λ slot. block_at (entry_at 1 node slot)) slots
 abbrev pub refs_of : List ℕ → List (Option NodeRef)
 refs_of node = map (λ slot. node_at (entry_at 2 node slot)) slots
 
--- the MAC of a node, of the bytes that it covers: the first 16 bytes of the SHA-512 digest of the level, as one byte, and these
+-- the MAC of a node, of the bytes that it covers: the first 16 bytes of the SHA-512 digest of the level, as
+-- one byte, and these
 unfoldable pub mac_of : (level : ℕ) → (covered : List ℕ) → List ℕ
 mac_of level covered = take 16 (sha512 (level ∷ covered))
 

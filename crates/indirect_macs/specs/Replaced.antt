@@ -22,8 +22,10 @@ abbrev pub IsTooMuch : List (List ℕ) → ShelfState → Type 0
 IsTooMuch [] s = ⊥
 IsTooMuch (block ∷ rest) s = SHELF_BYTES < sum s.sizes + length block
 
--- what an answer says of what was put and of what was not: all where there is a new tree, and nothing where a node failed
-abbrev pub Ended : (held : List (List ℕ)) → (record_size : ℕ) → Run → (base : ℕ) → (put rest : List (List ℕ)) → Result ObjTree MacError → ShelfState → Type 0
+-- what an answer says of what was put and of what was not: all where there is a new tree, and nothing where a
+-- node failed
+abbrev pub Ended : (held : List (List ℕ)) → (record_size : ℕ) → Run → (base : ℕ) → (put rest : List (List ℕ))
+    → Result ObjTree MacError → ShelfState → Type 0
 Ended held record_size run base put rest (Ok tree) new =
     (rest ≡ []) × (tree ≡ tree_of run (old_of held record_size run) base) × Passes held record_size run
 Ended held record_size run base put rest (Err (MacFailed level place)) new =
@@ -32,7 +34,8 @@ Ended held record_size run base put rest (Err Full) new = IsTooMuch rest new × 
 Ended held record_size run base put rest (Err ShelfFault) new = ⊤
 Ended held record_size run base put rest (Err NoMemory) new = ⊤
 
--- on every shelf: some calls were made, and some blocks put, at most so many; and the answer is a failure of the shelf exactly where one of the calls was the armed one
+-- on every shelf: some calls were made, and some blocks put, at most so many; and the answer is a failure of
+-- the shelf exactly where one of the calls was the armed one
 pub record Changes {X : Type 0} (reads puts : ℕ) (result : Result X MacError) (old new : ShelfState) : Type 0 where
   pub calls : ℕ
   pub put : List (List ℕ)
@@ -42,7 +45,8 @@ pub record Changes {X : Type 0} (reads puts : ℕ) (result : Result X MacError) 
   pub fault : is_fault result ≡ fails_within calls old.armed
 
 -- and where the shelf tells what it holds: what was put is a front of the new nodes, in order
-pub record Replaced (held : List (List ℕ)) (record_size : ℕ) (run : Run) (result : Result ObjTree MacError) (old new : ShelfState) : Type 0 where
+pub record Replaced (held : List (List ℕ)) (record_size : ℕ) (run : Run) (result : Result ObjTree MacError)
+    (old new : ShelfState) : Type 0 where
   pub calls : ℕ
   pub put : List (List ℕ)
   pub rest : List (List ℕ)

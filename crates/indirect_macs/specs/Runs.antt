@@ -1,4 +1,7 @@
--- Trees in which a run of references is put in: the new references of each block, the nodes that change for them, and what of these is put on a shelf. The nodes over the run are made anew from level 1 up, and in each level from left to right. A node is put where its entries change, or where the old tree has no such node.
+-- Trees in which a run of references is put in: the new references of each block, the nodes that change for
+-- them, and what of these is put on a shelf. The nodes over the run are made anew from level 1 up, and in
+-- each level from left to right. A node is put where its entries change, or where the old tree has no such
+-- node.
 use Rattle.std.specs.Prelude.{ℕ, zero, suc, ◌+◌, ◌-◌, ◌*◌, ◌/◌, ◌%◌, ◌^◌, ◌<◌, ◌≤◌, ◌≡◌, ◌==◌, ◌&&◌, ◌||◌, Bool, true, false, nat_le, nat_lt, if◌then◌else◌, List, [], ◌∷◌, ◌++◌, length, map, replicate, slice_index_or, Option, Some, None, is_none, is_some, Result, Ok, Err, IsOk}
 use Rattle.std.specs.List.{list_all, flat_map}
 use Rattle.std.specs.Cmp.Lexicographic.{pointwise}
@@ -25,7 +28,8 @@ pub record Run : Type 0 where
 abbrev pub levels_for : ℕ → ℕ
 levels_for blocks =
     if nat_le blocks (32 ^ 1) then 1
-    else (if nat_le blocks (32 ^ 2) then 2 else (if nat_le blocks (32 ^ 3) then 3 else (if nat_le blocks (32 ^ 4) then 4 else 5)))
+    else (if nat_le blocks (32 ^ 2) then 2
+    else (if nat_le blocks (32 ^ 3) then 3 else (if nat_le blocks (32 ^ 4) then 4 else 5)))
 
 -- ---- what is touched
 
@@ -54,30 +58,39 @@ pub record IsTouched (run : Run) (j : ℕ) : Type 0 where
 
 -- ---- the old tree
 
--- the references of an old tree: to the nodes, by level and index, and to the blocks. None in a hole, and beyond the tree
+-- the references of an old tree: to the nodes, by level and index, and to the blocks. None in a hole, and
+-- beyond the tree
 pub record Old : Type 0 where
   pub node : (level index : ℕ) → Option NodeRef
   pub block : (index : ℕ) → Option BlockRef
 
 -- what the node of a level above has of its child, where it passes
-unfoldable pub child_of : (held : List (List ℕ)) → (record_size level index : ℕ) → Option NodeRef → Result (Option NodeRef) MacError
+unfoldable pub child_of : (held : List (List ℕ)) → (record_size level index : ℕ) → Option NodeRef
+    → Result (Option NodeRef) MacError
 child_of held record_size level index None = Ok None
 child_of held record_size level index (Some node) =
-    option_map_or (λ bytes. Ok (node_at (entry_at level bytes (index % 32)))) (passed held record_size level node) (Err (MacFailed level (index / 32)))
+    option_map_or (λ bytes. Ok (node_at (entry_at level bytes (index % 32))))
+    (passed held record_size level node) (Err (MacFailed level (index / 32)))
 
--- the walk to a place so many levels below the top: the reference there, none in a hole or beyond the tree, or the first place above it that fails
-unfoldable pub found_below : (held : List (List ℕ)) → (record_size levels : ℕ) → (top : Option NodeRef) → (depth index : ℕ) → Result (Option NodeRef) MacError
+-- the walk to a place so many levels below the top: the reference there, none in a hole or beyond the tree,
+-- or the first place above it that fails
+unfoldable pub found_below : (held : List (List ℕ)) → (record_size levels : ℕ) → (top : Option NodeRef)
+    → (depth index : ℕ) → Result (Option NodeRef) MacError
 found_below held record_size levels top zero index = Ok (if index == 0 then top else None)
 found_below held record_size levels top (suc depth) index =
-    goes_on (λ above. child_of held record_size (levels - depth) index above) (λ failed. Err failed) (found_below held record_size levels top depth (index / 32))
+    goes_on (λ above. child_of held record_size (levels - depth) index above) (λ failed. Err failed)
+    (found_below held record_size levels top depth (index / 32))
 
 -- the walk to a place of the old tree
-unfoldable pub found_at : (held : List (List ℕ)) → (record_size : ℕ) → Run → (level index : ℕ) → Result (Option NodeRef) MacError
+unfoldable pub found_at : (held : List (List ℕ)) → (record_size : ℕ) → Run → (level index : ℕ)
+    → Result (Option NodeRef) MacError
 found_at held record_size run level index =
-    if nat_lt run.levels level then Ok None else found_below held record_size run.levels run.top (run.levels - level) index
+    if nat_lt run.levels level then Ok None
+    else found_below held record_size run.levels run.top (run.levels - level) index
 
 -- the walk to a block of the old tree
-unfoldable pub walk_to : (held : List (List ℕ)) → (record_size : ℕ) → Run → (index : ℕ) → Result (Option BlockRef) MacError
+unfoldable pub walk_to : (held : List (List ℕ)) → (record_size : ℕ) → Run → (index : ℕ)
+    → Result (Option BlockRef) MacError
 walk_to held record_size run index =
     if nat_lt index (32 ^ run.levels) then walk held record_size index (run.levels - 1) run.top else Ok None
 
@@ -98,9 +111,12 @@ old_of held record_size run = record {
 unfoldable pub target : Run → Old → (index : ℕ) → Option BlockRef
 target run old index =
     if nat_le run.blocks index then None
-    else (if nat_le run.from index && nat_lt index (run.from + length run.refs) then slice_index_or run.refs (index - run.from) None else old.block index)
+    else (if nat_le run.from index && nat_lt index (run.from + length run.refs) then slice_index_or run.refs
+    (index - run.from) None else old.block index)
 
--- what was made up to a node: the new references of the touched nodes of its level, from the first on; the reference to the node over all of the old tree, where a level above the old top isn't touched there; and the nodes that are put
+-- what was made up to a node: the new references of the touched nodes of its level, from the first on; the
+-- reference to the node over all of the old tree, where a level above the old top isn't touched there; and
+-- the nodes that are put
 pub record Made : Type 0 where
   pub refs : List (Option NodeRef)
   pub raised : Option NodeRef
@@ -109,7 +125,8 @@ pub record Made : Type 0 where
 -- the new reference to a node of this level, of which this was made: a touched one's, and else the old one
 unfoldable pub new_ref : Run → Old → (level : ℕ) → Made → (index : ℕ) → Option NodeRef
 new_ref run old level made index =
-    if nat_le (first_at run level) index && nat_le index (last_at run level) then slice_index_or made.refs (index - first_at run level) None
+    if nat_le (first_at run level) index
+    && nat_le index (last_at run level) then slice_index_or made.refs (index - first_at run level) None
     else (if nat_le run.blocks (index * 32 ^ level) then None
     else (if nat_lt run.levels level then (if index == 0 then made.raised else None) else old.node level index))
 
@@ -120,7 +137,8 @@ entries_at refs index = map (λ slot. refs (32 * index + slot)) slots
 -- ---- the nodes
 
 abbrev pub same_block : BlockRef → BlockRef → Bool
-same_block a b = a.size == b.size && a.addr == b.addr && bytes_eq a.salt b.salt && bytes_eq a.iv b.iv && bytes_eq a.mac b.mac
+same_block a b =
+    a.size == b.size && a.addr == b.addr && bytes_eq a.salt b.salt && bytes_eq a.iv b.iv && bytes_eq a.mac b.mac
 
 abbrev pub same_node : NodeRef → NodeRef → Bool
 same_node a b = a.addr == b.addr && bytes_eq a.mac b.mac
@@ -154,8 +172,10 @@ new_node run old level below index =
 -- the old node there, if its entries are the same
 unfoldable pub kept : Run → Old → (level : ℕ) → Made → (index : ℕ) → Option NodeRef
 kept run old level below index =
-    if (if level == 1 then pointwise (option_eq same_block) (entries_at old.block index) (entries_at (target run old) index)
-    else pointwise (option_eq same_node) (entries_at (old.node (level - 1)) index) (entries_at (new_ref run old (level - 1) below) index))
+    if (if level == 1 then pointwise (option_eq same_block) (entries_at old.block index)
+    (entries_at (target run old) index)
+    else pointwise (option_eq same_node) (entries_at (old.node (level - 1)) index)
+    (entries_at (new_ref run old (level - 1) below) index))
     then old.node level index else None
 
 -- a node is put behind what was put, unless all its entries are holes or the old one is kept
@@ -167,7 +187,8 @@ puts_with node old puts = if is_put node old then puts ++ node.bytes ∷ [] else
 
 -- its reference, where so many blocks are on the shelf before
 abbrev pub ref_with : (before : ℕ) → Node → Option NodeRef → Option NodeRef
-ref_with before node old = if is_put node old then Some (record { addr = before; mac = node.mac }) else (if node.holes then None else old)
+ref_with before node old =
+    if is_put node old then Some (record { addr = before; mac = node.mac }) else (if node.holes then None else old)
 
 -- ---- the levels
 

@@ -25,7 +25,8 @@ pub record HasBytes (r : BlockRef) : Type 0 where
 abbrev pub HoldsBytes : List (List ℕ) → Type 0
 HoldsBytes held = (address : ℕ) (block : List ℕ) → slice_get held address ≡ Some block → AreBytes block
 
--- the walk to each block of the tree passes, and gives the reference at its place of the list, or a hole behind the list
+-- the walk to each block of the tree passes, and gives the reference at its place of the list, or a hole
+-- behind the list
 abbrev pub LeadsTo : (held : List (List ℕ)) → (record_size below : ℕ) → Option NodeRef → List (Option BlockRef) → Type 0
 LeadsTo held record_size below top refs =
     (index : ℕ) → index < 32 ^ (below + 1) → walk held record_size index below top ≡ Ok (slice_index_or refs index None)
@@ -37,7 +38,8 @@ is_empty_node level node = list_all (λ slot. slice_index (entry_at level node s
 -- none of the tree's nodes is such a one
 abbrev pub HasNoEmptyNodes : (held : List (List ℕ)) → (below : ℕ) → Option NodeRef → Type 0
 HasNoEmptyNodes held below top =
-    (index depth : ℕ) (place : Place) (node : List ℕ) → index < 32 ^ (below + 1) → place_at held index below top depth ≡ Some place
+    (index depth : ℕ) (place : Place) (node : List ℕ) → index < 32 ^ (below + 1)
+    → place_at held index below top depth ≡ Some place
     → slice_get held place.node.addr ≡ Some node → is_empty_node place.level node ≡ false
 
 -- a run of references that fit, into a tree as a shelf holds it, whose new addresses fit too
@@ -58,16 +60,20 @@ abbrev pub tree_after : (held : List (List ℕ)) → (record_size : ℕ) → Run
 tree_after held record_size run = tree_of run (old_of held record_size run) (length held)
 
 -- the walk to a block of the new tree
-abbrev pub walk_after : (held : List (List ℕ)) → (record_size : ℕ) → Run → (index : ℕ) → Result (Option BlockRef) MacError
+abbrev pub walk_after : (held : List (List ℕ)) → (record_size : ℕ) → Run → (index : ℕ)
+    → Result (Option BlockRef) MacError
 walk_after held record_size run index =
-    let tree = tree_after held record_size run in walk (held_after held record_size run) record_size index (tree.levels - 1) tree.top
+    let tree = tree_after held record_size run in walk (held_after held record_size run) record_size index
+    (tree.levels - 1) tree.top
 
 -- the tree that the run is put into
 abbrev pub tree_before : Run → ObjTree
 tree_before run = record { levels = run.levels; top = run.top }
 
--- a tree of these references in its one spelling: of the fewest levels with room for them, where every walk leads to its reference, or to a hole behind them, and no node is without references
-pub record IsTree (held : List (List ℕ)) (record_size : ℕ) (tree : ObjTree) (refs : List (Option BlockRef)) : Type 0 where
+-- a tree of these references in its one spelling: of the fewest levels with room for them, where every walk
+-- leads to its reference, or to a hole behind them, and no node is without references
+pub record IsTree (held : List (List ℕ)) (record_size : ℕ) (tree : ObjTree)
+    (refs : List (Option BlockRef)) : Type 0 where
   pub levels : tree.levels ≡ levels_for (length refs)
   pub room : length refs ≤ 32 ^ tree.levels
   pub leads : LeadsTo held record_size (tree.levels - 1) tree.top refs
@@ -77,7 +83,9 @@ pub record IsTree (held : List (List ℕ)) (record_size : ℕ) (tree : ObjTree) 
 unfoldable pub with_run : Run → List (Option BlockRef) → List (Option BlockRef)
 with_run run refs =
     map
-    (λ index. if nat_le run.from index && nat_lt index (run.from + length run.refs) then slice_index_or run.refs (index - run.from) None else slice_index_or refs index None)
+    (λ index. if nat_le run.from index
+    && nat_lt index (run.from + length run.refs) then slice_index_or run.refs (index - run.from) None
+    else slice_index_or refs index None)
     (range_with_len 0 run.blocks)
 
 -- no old reference stays behind the new number of blocks: the run touches the last block, or there is none

@@ -79,7 +79,8 @@ fn blocks_in(node: &[u8; ENTRIES * BLOCK_ENTRY_LEN]) -> [Option<BlockRef>; 32]
 // the old top.
 fn found_above(run: &Run, level: u8, index: u32) -> [Found; 32]
     requires above { run.now.tree.levels < level }
-    ensures { (held : List (List ℕ)) → result ≡ entries_at (found_at held run.now.block (run_of run.now) (level - 1)) index }
+    ensures { (held : List (List ℕ))
+        → result ≡ entries_at (found_at held run.now.block (run_of run.now) (level - 1)) index }
 {
     let mut found = [Ok(None); ENTRIES];
     if level == run.tree.levels + 1 && index == 0 {
@@ -143,7 +144,8 @@ fn found_from<B: Shelf>(
     requires fits { index * 32 ^ level < 2 ^ 32 }
     ensures reads { Reads 1 (is_fault result) (B.told shelf.old) (B.told shelf.new) }
     ensures stops { IfErr result IsStop }
-    ensures told { IfSome (B.told shelf.old).held (λ held. Ok node.now ≡ found_at held run.now.block (run_of run.now) level index
+    ensures told { IfSome (B.told shelf.old).held (λ held. Ok node.now
+        ≡ found_at held run.now.block (run_of run.now) level index
         → IfOk result (λ found. found ≡ entries_at (found_at held run.now.block (run_of run.now) (level - 1)) index)) }
 {
     match node {
@@ -167,7 +169,8 @@ fn found_below<B: Shelf>(
     ensures hole { run.now.tree.levels < level → B.told shelf.new ≡ B.told shelf.old }
     ensures quiet { run.now.tree.levels < level → is_fault result ≡ false }
     ensures stops { IfErr result IsStop }
-    ensures told { IfSome (B.told shelf.old).held (λ held. found.now ≡ found_at held run.now.block (run_of run.now) level index
+    ensures told { IfSome (B.told shelf.old).held (λ held. found.now
+        ≡ found_at held run.now.block (run_of run.now) level index
         → IfOk result (λ found. found ≡ entries_at (found_at held run.now.block (run_of run.now) (level - 1)) index)) }
 {
     if level > run.tree.levels {
@@ -206,8 +209,10 @@ fn add_children<B: Shelf>(
     ensures quiet { run.now.tree.levels < level → is_fault result ≡ false }
     ensures stops { IfErr result IsStop }
     ensures size { IfOk result (λ _. length children.new.items ≡ length children.old.items + 32) }
-    ensures told { IfSome (B.told shelf.old).held (λ held. found.now ≡ found_at held run.now.block (run_of run.now) level index
-        → IfOk result (λ _. children.new.items ≡ children.old.items ++ entries_at (found_at held run.now.block (run_of run.now) (level - 1)) index)) }
+    ensures told { IfSome (B.told shelf.old).held (λ held. found.now
+        ≡ found_at held run.now.block (run_of run.now) level index
+        → IfOk result (λ _. children.new.items ≡ children.old.items
+        ++ entries_at (found_at held run.now.block (run_of run.now) (level - 1)) index)) }
 {
     match found_below(run, shelf, level, index, found) {
         Ok(found) => append(children, &found),
@@ -232,7 +237,8 @@ pub fn read_children<B: Shelf>(
     ensures stops { IfErr result IsStop }
     ensures size { IfOk result (λ children. length children.items ≡ 32 * length old.now) }
     ensures told { IfSome (B.told shelf.old).held (λ held.
-        IsRange (found_at held run.now.block (run_of run.now) level) (first_at (run_of run.now) level) (length old.now) old.now
+        IsRange (found_at held run.now.block (run_of run.now) level) (first_at (run_of run.now) level)
+        (length old.now) old.now
         → IfOk result (λ children. IsRange (found_at held run.now.block (run_of run.now) (level - 1))
         (32 * first_at (run_of run.now) level) (32 * length old.now) children.items)) }
 {
@@ -262,7 +268,8 @@ fn blocks_below<B: Shelf>(
 ) -> Result<[Option<BlockRef>; 32], MacError>
     requires fits { index * 32 < 2 ^ 32 }
     ensures reads { Reads 1 (is_fault result) (B.told shelf.old) (B.told shelf.new) }
-    ensures told { IfSome (B.told shelf.old).held (λ held. found.now ≡ found_at held run.now.block (run_of run.now) 1 index
+    ensures told { IfSome (B.told shelf.old).held (λ held. found.now
+        ≡ found_at held run.now.block (run_of run.now) 1 index
         → IsLeaf held run.now.block (run_of run.now) index result) }
 {
     if let Some(failed) = failure(found) {
@@ -289,7 +296,8 @@ fn add_blocks<B: Shelf>(
     requires fits { index * 32 < 2 ^ 32 }
     ensures reads { Reads 1 (is_fault result) (B.told shelf.old) (B.told shelf.new) }
     ensures size { IfOk result (λ _. length blocks.new.items ≡ length blocks.old.items + 32) }
-    ensures told { IfSome (B.told shelf.old).held (λ held. found.now ≡ found_at held run.now.block (run_of run.now) 1 index
+    ensures told { IfSome (B.told shelf.old).held (λ held. found.now
+        ≡ found_at held run.now.block (run_of run.now) 1 index
         → IsLeafAdded held run.now.block (run_of run.now) index result blocks.old.items blocks.new.items) }
 {
     match blocks_below(run, shelf, index, found) {
@@ -314,7 +322,8 @@ pub fn read_blocks<B: Shelf>(
     ensures size { IfOk result (λ blocks. length blocks.items ≡ 32 * length old.now) }
     ensures told { IfSome (B.told shelf.old).held (λ held.
         IsRange (found_at held run.now.block (run_of run.now) 1) (first_at (run_of run.now) 1) (length old.now) old.now
-        → IfOk result (λ blocks. IsRange (old_of held run.now.block (run_of run.now)).block (32 * first_at (run_of run.now) 1) (32 * length old.now) blocks.items
+        → IfOk result (λ blocks. IsRange (old_of held run.now.block (run_of run.now)).block
+        (32 * first_at (run_of run.now) 1) (32 * length old.now) blocks.items
         × AllWalk held run.now.block (run_of run.now) (first_at (run_of run.now) 1) (length old.now))) }
     ensures stops { IfSome (B.told shelf.old).held (λ held.
         IsRange (found_at held run.now.block (run_of run.now) 1) (first_at (run_of run.now) 1) (length old.now) old.now

@@ -105,7 +105,8 @@ pub fn node_at(entry: &[u8]) -> Option<NodeRef>
 /// Adds what a node's MAC covers of a reference to a block: tag, size, salt, initialization vector and
 /// MAC.
 pub fn update_block(hasher: &mut Sha512, entry: &Option<BlockRef>)
-    ensures { (covered : List ℕ) → Holds512 hasher.old covered → Holds512 hasher.new (covered ++ block_under_mac entry.now) }
+    ensures { (covered : List ℕ) → Holds512 hasher.old covered
+        → Holds512 hasher.new (covered ++ block_under_mac entry.now) }
 {
     match entry {
         Some(block) => {
@@ -123,7 +124,8 @@ pub fn update_block(hasher: &mut Sha512, entry: &Option<BlockRef>)
 
 /// Adds what a node's MAC covers of a reference to a node of this MAC: tag and MAC.
 pub fn update_node(hasher: &mut Sha512, entry: &Option<[u8; 16]>)
-    ensures { (covered : List ℕ) → Holds512 hasher.old covered → Holds512 hasher.new (covered ++ node_under_mac entry.now) }
+    ensures { (covered : List ℕ) → Holds512 hasher.old covered
+        → Holds512 hasher.new (covered ++ node_under_mac entry.now) }
 {
     match entry {
         Some(mac) => {

@@ -16,8 +16,10 @@ pub fn block_nodes_have_one_spelling()
     ensures read { (record_size : ℕ) (refs : List (Option BlockRef)) → length refs ≡ 32
         → All (λ entry. IfSome entry (IsBlockRef record_size)) refs → blocks_of (block_node refs) ≡ refs }
     ensures entries { (record_size : ℕ) (refs : List (Option BlockRef)) → length refs ≡ 32
-        → All (λ entry. IfSome entry (IsBlockRef record_size)) refs → has_entries 1 record_size (block_node refs) ≡ true }
-    ensures spelled { (record_size : ℕ) (node : List ℕ) → length node ≡ node_len 1 → ((i : ℕ) → slice_index node i < 256)
+        → All (λ entry. IfSome entry (IsBlockRef record_size)) refs
+        → has_entries 1 record_size (block_node refs) ≡ true }
+    ensures spelled { (record_size : ℕ) (node : List ℕ) → length node ≡ node_len 1
+        → ((i : ℕ) → slice_index node i < 256)
         → has_entries 1 record_size node ≡ true → block_node (blocks_of node) ≡ node }
     ensures mac { (record_size : ℕ) (refs : List (Option BlockRef)) → length refs ≡ 32
         → All (λ entry. IfSome entry (IsBlockRef record_size)) refs
@@ -42,7 +44,8 @@ pub fn ref_nodes_have_one_spelling()
 /// The walk to a block is the first place from the top, of those over the block, that fails its test,
 /// and where all of them pass it is the reference that the lowest of them has.
 pub fn walks_stop_at_the_first_place_that_fails()
-    ensures fails { (held : List (List ℕ)) (record_size index below : ℕ) (top : Option NodeRef) (depth : ℕ) (place : Place)
+    ensures fails { (held : List (List ℕ)) (record_size index below : ℕ) (top : Option NodeRef) (depth : ℕ)
+        (place : Place)
         → place_at held index below top depth ≡ Some place → passed held record_size place.level place.node ≡ None
         → ((above : ℕ) (other : Place) → above < depth → place_at held index below top above ≡ Some other
         → IsSome (passed held record_size other.level other.node))
@@ -59,6 +62,8 @@ pub fn walks_stop_at_the_first_place_that_fails()
 pub fn walks_stay_when_the_shelf_grows()
     ensures nodes { (held more : List (List ℕ)) (record_size level : ℕ) (node : NodeRef) (bytes : List ℕ)
         → passed held record_size level node ≡ Some bytes → passed (held ++ more) record_size level node ≡ Some bytes }
-    ensures blocks { (held more : List (List ℕ)) (record_size index below : ℕ) (top : Option NodeRef) (found : Option BlockRef)
-        → walk held record_size index below top ≡ Ok found → walk (held ++ more) record_size index below top ≡ Ok found }
+    ensures blocks { (held more : List (List ℕ)) (record_size index below : ℕ) (top : Option NodeRef)
+        (found : Option BlockRef)
+        → walk held record_size index below top ≡ Ok found
+        → walk (held ++ more) record_size index below top ≡ Ok found }
 {}

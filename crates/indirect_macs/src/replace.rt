@@ -42,7 +42,8 @@ fn target(run: &Run, index: u32, old: &Option<BlockRef>) -> Option<BlockRef>
 
 fn is_touched(run: &Run, level: u8, index: u32) -> bool
     requires { level ≤ 5 }
-    ensures value { result ≡ (nat_le (first_at (run_of run.now) level) index && nat_le index (last_at (run_of run.now) level)) }
+    ensures value { result ≡ (nat_le (first_at (run_of run.now) level) index
+        && nat_le index (last_at (run_of run.now) level)) }
     ensures low { IsTrue result → first_at (run_of run.now) level ≤ index }
     ensures high { IsTrue result → index ≤ last_at (run_of run.now) level }
 {
@@ -87,7 +88,8 @@ fn new_ref(run: &Run, level: u8, made: &Made, index: u32, old: &Option<NodeRef>)
 fn new_blocks(run: &Run, index: u32, old: &[Option<BlockRef>]) -> [Option<BlockRef>; 32]
     requires fits { 32 * index < 2 ^ 31 }
     requires size { length old.now ≡ 32 }
-    ensures { (before : Old) → old.now ≡ entries_at before.block index → result ≡ entries_at (target (run_of run.now) before) index }
+    ensures { (before : Old) → old.now ≡ entries_at before.block index
+        → result ≡ entries_at (target (run_of run.now) before) index }
 {
     let mut entries = [None; ENTRIES];
     'entries: for slot in 0..ENTRIES {
@@ -184,9 +186,11 @@ fn add_leaf<B: Shelf>(
 ) -> Result<(), MacError>
     requires fits { 32 * index < 2 ^ 31 }
     requires size { length before.now ≡ 32 }
-    ensures { (o : Old) (reads : ℕ) (made : Outcome) (start : ShelfState) → before.now ≡ entries_at o.block index → or_hole old.now ≡ o.node 1 index
+    ensures { (o : Old) (reads : ℕ) (made : Outcome) (start : ShelfState)
+        → before.now ≡ entries_at o.block index → or_hole old.now ≡ o.node 1 index
         → refs.old.items ≡ made.refs → HasPut reads made.puts start (B.told shelf.old)
-        → let after = added (length start.sizes) (new_node (run_of run.now) o 1 made index) (kept (run_of run.now) o 1 made index) made in
+        → let after = added (length start.sizes) (new_node (run_of run.now) o 1 made index)
+        (kept (run_of run.now) o 1 made index) made in
         IfOk result (λ _. refs.new.items ≡ after.refs) × Puts reads after.puts result start (B.told shelf.new) }
 {
     let entries = new_blocks(run, index, before);
@@ -212,10 +216,12 @@ fn add_inner<B: Shelf>(
     requires fits { 32 * index < 2 ^ 31 }
     requires size { length before.now ≡ 32 }
     requires below { length below.now.refs.items ≡ count_at (run_of run.now) (level - 1) }
-    ensures { (o : Old) (reads : ℕ) (under made : Outcome) (start : ShelfState) → map or_hole before.now ≡ entries_at (o.node (level - 1)) index
+    ensures { (o : Old) (reads : ℕ) (under made : Outcome) (start : ShelfState)
+        → map or_hole before.now ≡ entries_at (o.node (level - 1)) index
         → or_hole old.now ≡ o.node level index → below.now.refs.items ≡ under.refs → below.now.raised ≡ under.raised
         → refs.old.items ≡ made.refs → HasPut reads made.puts start (B.told shelf.old)
-        → let after = added (length start.sizes) (new_node (run_of run.now) o level under index) (kept (run_of run.now) o level under index) made in
+        → let after = added (length start.sizes) (new_node (run_of run.now) o level under index)
+        (kept (run_of run.now) o level under index) made in
         IfOk result (λ _. refs.new.items ≡ after.refs) × Puts reads after.puts result start (B.told shelf.new) }
 {
     let children = old_refs(before);
@@ -245,7 +251,8 @@ fn put_leaves<B: Shelf>(
         → IsRange (before.node 1) (first_at (run_of run.now) 1) (length old.now) (map or_hole old.now)
         → IsRange before.block (32 * first_at (run_of run.now) 1) (32 * length old.now) blocks.now
         → HasPut reads [] start (B.told shelf.old)
-        → LevelsPut (λ made. made.refs.items) (λ made. made.raised) reads (levels_made (run_of run.now) before (length start.sizes) 1) result start (B.told shelf.new) }
+        → LevelsPut (λ made. made.refs.items) (λ made. made.raised) reads
+        (levels_made (run_of run.now) before (length start.sizes) 1) result start (B.told shelf.new) }
 {
     let first = first_at(run, 1);
     let mut refs = Vec::new(alloc);
@@ -342,7 +349,8 @@ fn put_level<B: Shelf>(
         → Knows (run_of run.now) before level (first_at (run_of run.now) level) old.now children.now
         → below.now.refs.items ≡ made.refs → below.now.raised ≡ made.raised
         → HasPut reads made.puts start (B.told shelf.old)
-        → LevelsPut (λ made. made.refs.items) (λ made. made.raised) reads (nodes_made (run_of run.now) before (length start.sizes) level made (length old.now))
+        → LevelsPut (λ made. made.refs.items) (λ made. made.raised) reads
+        (nodes_made (run_of run.now) before (length start.sizes) level made (length old.now))
         result start (B.told shelf.new) }
 {
     let raised = match put_raised(run, shelf, level, below) {
@@ -361,7 +369,8 @@ fn touched<'a>(run: &Run, level: u8, children: &'a [Found]) -> &'a [Found]
     requires levels { level ≤ 5 }
     requires size { length children.now ≡ 32 * count_at (run_of run.now) level }
     ensures count { length result.now ≡ count_at (run_of run.now) (level - 1) }
-    ensures range { (f : ℕ → Result (Option NodeRef) MacError) → IsRange f (32 * first_at (run_of run.now) level) (32 * count_at (run_of run.now) level) children.now
+    ensures range { (f : ℕ → Result (Option NodeRef) MacError)
+        → IsRange f (32 * first_at (run_of run.now) level) (32 * count_at (run_of run.now) level) children.now
         → IsRange f (first_at (run_of run.now) (level - 1)) (count_at (run_of run.now) (level - 1)) result.now }
 {
     let above = first_at(run, level);
@@ -383,14 +392,19 @@ fn replace_levels<B: Shelf>(
     requires levels { level ≤ 5 }
     requires count { length old.now ≡ count_at (run_of run.now) level }
     ensures told { IfSome (B.told shelf.old).held (λ held.
-        IsRange (found_at held run.now.block (run_of run.now) level) (first_at (run_of run.now) level) (length old.now) old.now
-        → LevelsRun (λ made. made.refs.items) (λ made. made.raised) held run.now.block (run_of run.now) (touched_below (run_of run.now) (min level run.now.tree.levels))
-        (levels_made (run_of run.now) (old_of held run.now.block (run_of run.now)) (length (B.told shelf.old).sizes) (min level (levels_for run.now.blocks)))
+        IsRange (found_at held run.now.block (run_of run.now) level) (first_at (run_of run.now) level)
+        (length old.now) old.now
+        → LevelsRun (λ made. made.refs.items) (λ made. made.raised) held run.now.block (run_of run.now)
+        (touched_below (run_of run.now) (min level run.now.tree.levels))
+        (levels_made (run_of run.now) (old_of held run.now.block (run_of run.now))
+        (length (B.told shelf.old).sizes) (min level (levels_for run.now.blocks)))
         result (B.told shelf.old) (B.told shelf.new)) }
     ensures changes { Changes (touched_below (run_of run.now) (min level run.now.tree.levels))
-        (touched_below (run_of run.now) (min level (levels_for run.now.blocks)) + raised_below (run_of run.now) (min level (levels_for run.now.blocks)))
+        (touched_below (run_of run.now) (min level (levels_for run.now.blocks)) + raised_below (run_of run.now)
+        (min level (levels_for run.now.blocks)))
         result (B.told shelf.old) (B.told shelf.new) }
-    ensures count { IfOk result (λ made. length made.refs.items ≡ count_at (run_of run.now) (min level (levels_for run.now.blocks))) }
+    ensures count { IfOk result (λ made. length made.refs.items
+        ≡ count_at (run_of run.now) (min level (levels_for run.now.blocks))) }
 {
     if level == 1 {
         return match read_blocks(alloc, run, shelf, old) {

@@ -90,7 +90,8 @@ fn inner_mac(entries: &[Option<NodeRef>; 32], level: u8) -> [u8; 16]
 // Puts a node at the end of the shelf.
 fn put<B: Shelf>(shelf: &mut B, node: &[u8]) -> Result<u64, MacError>
     ensures address { IfOk result (λ address. address ≡ length (B.told shelf.old).sizes) }
-    ensures puts { (reads : ℕ) (before : List (List ℕ)) (start : ShelfState) → HasPut reads before start (B.told shelf.old)
+    ensures puts { (reads : ℕ) (before : List (List ℕ)) (start : ShelfState)
+        → HasPut reads before start (B.told shelf.old)
         → Puts reads (before ++ node.now ∷ []) result start (B.told shelf.new) }
 {
     match shelf.put(node) {
@@ -107,8 +108,10 @@ pub fn put_leaf<B: Shelf>(
     entries: &[Option<BlockRef>; 32],
     kept: &Option<NodeRef>,
 ) -> Result<Option<NodeRef>, MacError>
-    ensures value { IfOk result (λ node. node ≡ ref_with (length (B.told shelf.old).sizes) (leaf_of entries.now) kept.now) }
-    ensures puts { (reads : ℕ) (before : List (List ℕ)) (start : ShelfState) → HasPut reads before start (B.told shelf.old)
+    ensures value { IfOk result (λ node. node
+        ≡ ref_with (length (B.told shelf.old).sizes) (leaf_of entries.now) kept.now) }
+    ensures puts { (reads : ℕ) (before : List (List ℕ)) (start : ShelfState)
+        → HasPut reads before start (B.told shelf.old)
         → Puts reads (puts_with (leaf_of entries.now) kept.now before) result start (B.told shelf.new) }
 {
     if are_holes(entries) {
@@ -133,8 +136,10 @@ pub fn put_inner<B: Shelf>(
     entries: &[Option<NodeRef>; 32],
     kept: &Option<NodeRef>,
 ) -> Result<Option<NodeRef>, MacError>
-    ensures value { IfOk result (λ node. node ≡ ref_with (length (B.told shelf.old).sizes) (inner_of level entries.now) kept.now) }
-    ensures puts { (reads : ℕ) (before : List (List ℕ)) (start : ShelfState) → HasPut reads before start (B.told shelf.old)
+    ensures value { IfOk result (λ node. node
+        ≡ ref_with (length (B.told shelf.old).sizes) (inner_of level entries.now) kept.now) }
+    ensures puts { (reads : ℕ) (before : List (List ℕ)) (start : ShelfState)
+        → HasPut reads before start (B.told shelf.old)
         → Puts reads (puts_with (inner_of level entries.now) kept.now before) result start (B.told shelf.new) }
 {
     if are_holes(entries) {

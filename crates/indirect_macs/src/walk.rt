@@ -79,7 +79,8 @@ pub fn read_node<B: Shelf>(
     ensures answers { Answers level 1 index result (B.told shelf.old) (B.told shelf.new) }
     ensures told { IfSome (B.told shelf.old).held (λ blocks. Gave (reads_of (map length blocks) level node.now)
         (tested blocks block index level node.now) result (B.told shelf.old) (B.told shelf.new)) }
-    ensures bytes { OnOk result (IfSome (B.told shelf.old).held (λ blocks. passed blocks block level node.now ≡ Some out.new)) }
+    ensures bytes { OnOk result (IfSome (B.told shelf.old).held (λ blocks. passed blocks block level node.now
+        ≡ Some out.new)) }
 {
     if !names_node(shelf, node.addr, level) {
         return Err(fails_at(level, index));
@@ -186,7 +187,8 @@ pub fn lookup<B: Shelf>(
     requires within { index < 32 ^ tree.now.levels }
     ensures hole { IfNone tree.now.top ((result ≡ Ok None) × (B.told shelf.new ≡ B.told shelf.old)) }
     ensures answers { Answers tree.now.levels tree.now.levels index result (B.told shelf.old) (B.told shelf.new) }
-    ensures told { IfSome (B.told shelf.old).held (λ blocks. Gave (reads blocks block index (tree.now.levels - 1) tree.now.top)
+    ensures told { IfSome (B.told shelf.old).held
+        (λ blocks. Gave (reads blocks block index (tree.now.levels - 1) tree.now.top)
         (walk blocks block index (tree.now.levels - 1) tree.now.top) result (B.told shelf.old) (B.told shelf.new)) }
 {
     walk(shelf, tree.levels, &tree.top, index, block)
