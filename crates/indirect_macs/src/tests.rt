@@ -123,8 +123,8 @@ fn a_node_that_is_not_there_is_not_read(rt: HostRuntime) -> Result<(), Fail> {
     Ok(())
 }
 
-// A run of one block makes the tree above. A cut that loses the block leaves a hole, and puts nothing; so
-// does a run below a node that fails.
+// A run of one block makes the tree above. A cut that loses the block leaves a hole, and puts
+// nothing.
 #[test]
 fn runs_are_put_and_cut(rt: HostRuntime) -> Result<(), Fail> {
     let alloc = rt.alloc();
@@ -141,10 +141,6 @@ fn runs_are_put_and_cut(rt: HostRuntime) -> Result<(), Fail> {
         top: None,
     };
     assert_eq!(rt; cut, Ok(hole));
-    assert_eq!(rt; shelf.alter(0, 80, 1), Ok(()));
-    let failed = replace_run(alloc, &TREE, &mut shelf, 64, 34, &[Some(BLOCK)], 512);
-    let place = MacError::MacFailed { level: 1, index: 1 };
-    assert_eq!(rt; failed, Err(place));
     assert_eq!(rt; shelf.blocks(), 2);
     Ok(())
 }
