@@ -56,10 +56,10 @@ fn look_up(tree: &ObjTree, shelf: &mut MemShelf, count: u32) -> Result<u32> {
     if tree.levels != 5 {
         bail!("a tree of five levels is wanted");
     }
-    let mut found = 0;
+    let mut found = 0u32;
     'lookups: for _ in 0..count {
         if lookup(tree, shelf, LAST, RECORD_SIZE) == Ok(Some(LAST_BLOCK)) {
-            found += 1;
+            found = found.saturating_add(1);
         }
     }
     Ok(found)
