@@ -1,5 +1,10 @@
+// Worked trees, and how many calls of a shelf are made.
+ghost use Rattle.std.specs.Prelude.{◌^◌, ◌≡◌, ◌≤◌};
+
 use crate::{BlockRef, MacError, NodeRef, ObjTree, fold_mac, lookup, replace_run};
 use shelf_store::{MemShelf, Shelf};
+use std::alloc::Global;
+use std::process::Abort;
 use std::test::Fail;
 
 // A block of 512 bytes at address 7, with a salt, an initialization vector and a MAC of bytes 1, 2
@@ -142,5 +147,145 @@ fn runs_are_put_and_cut(rt: HostRuntime) -> Result<(), Fail> {
     };
     assert_eq!(rt; cut, Ok(hole));
     assert_eq!(rt; shelf.blocks(), 2);
+    Ok(())
+}
+
+// A run: how many blocks the tree is then to have, where the run begins, and of how many references it is.
+type Extent = (u32, u32, u16);
+
+// The run that makes a tree, one that is put into that tree, and how many nodes this one reads and puts.
+type PutRow = (Extent, Extent, u16, u16);
+
+// Runs that end at or cross 32, 1024 and 32^4 blocks: eight where the levels stay, seven where they grow, and
+// two cuts. The nodes are counted by Python, in sets of blocks. Six rows have as many as there may be.
+const RUNS: [PutRow; 17] = [
+    ((32, 31, 1), (32, 31, 1), 1, 1),
+    ((33, 31, 2), (33, 31, 2), 3, 3),
+    ((1024, 1023, 1), (1024, 1023, 1), 2, 2),
+    ((1025, 1023, 2), (1025, 1023, 2), 5, 5),
+    ((1_048_576, 1_048_575, 1), (1_048_576, 1_048_575, 1), 4, 4),
+    ((1_048_577, 1_048_575, 2), (1_048_577, 1_048_575, 2), 9, 9),
+    (
+        (1_048_609, 1_048_575, 34),
+        (1_048_609, 1_048_575, 34),
+        10,
+        10,
+    ),
+    (
+        (1_049_601, 1_048_575, 1026),
+        (1_049_601, 1_048_575, 1026),
+        42,
+        42,
+    ),
+    ((32, 31, 1), (33, 31, 2), 1, 3),
+    ((32, 31, 1), (33, 32, 1), 0, 2),
+    ((1024, 1023, 1), (1025, 1023, 2), 2, 5),
+    ((1_048_576, 1_048_575, 1), (1_048_577, 1_048_575, 2), 4, 9),
+    ((1, 0, 1), (2_097_153, 2_097_151, 2), 0, 12),
+    ((1, 0, 1), (2_097_185, 2_097_151, 34), 0, 13),
+    ((1, 0, 1), (2_098_177, 2_097_151, 1026), 0, 45),
+    ((1025, 1022, 3), (1023, 1023, 0), 3, 2),
+    ((1_048_577, 1_048_575, 2), (1_048_576, 1_048_576, 0), 5, 0),
+];
+
+// The run that makes a tree, and how many nodes of it are on the way to a block.
+const WAYS: [(Extent, u32, u16); 10] = [
+    ((32, 31, 1), 31, 1),
+    ((33, 31, 2), 32, 2),
+    ((1024, 1023, 1), 1023, 2),
+    ((1025, 1023, 2), 1024, 3),
+    ((1_048_576, 1_048_575, 1), 1_048_575, 4),
+    ((1_048_577, 1_048_575, 2), 1_048_575, 5),
+    ((1_048_577, 1_048_575, 2), 1_048_576, 5),
+    ((1_048_577, 1_048_575, 2), 1_048_543, 4),
+    ((1_048_577, 1_048_575, 2), 0, 2),
+    ((33, 32, 1), 31, 1),
+];
+
+// The room of a tree.
+fn room(levels: u8) -> u32
+    ensures { levels ≤ 5 → result ≡ 32 ^ levels }
+{
+    match levels {
+        0 => 1,
+        1 => 32,
+        2 => 1024,
+        3 => 32_768,
+        4 => 1_048_576,
+        _ => 33_554_432,
+    }
+}
+
+// Puts a run of references to the block of an address.
+fn put(
+    rt: &impl Abort,
+    alloc: Global,
+    tree: &ObjTree,
+    shelf: &mut MemShelf,
+    run: Extent,
+    addr: u64,
+) -> Result<ObjTree, MacError> {
+    let (blocks, from, count) = run;
+    let block = BlockRef { addr, ..BLOCK };
+    let refs = vec![in alloc; Some(block); usize::from(count)]?;
+    assert!(rt; 1 <= tree.levels && tree.levels <= 5);
+    assert!(rt; blocks <= 8_388_608 && from <= blocks && u32::from(count) <= blocks - from);
+    replace_run(alloc, tree, shelf, blocks, from, &refs, 512)
+}
+
+// With the call behind the last one armed the run ends, and with the last one armed it fails.
+fn assert_run_counts(rt: &impl Abort, alloc: Global, row: PutRow) -> Result<(), Fail> {
+    let (made, run, reads, puts) = row;
+    let empty = ObjTree {
+        levels: 1,
+        top: None,
+    };
+    let mut shelf = MemShelf::fresh(alloc)?;
+    let tree = put(rt, alloc, &empty, &mut shelf, made, 7)?;
+    let mut failing = shelf.copy()?;
+    let before = shelf.blocks();
+    let calls = u64::from(reads) + u64::from(puts);
+    shelf.fail_after(calls);
+    let after = put(rt, alloc, &tree, &mut shelf, run, 8)?;
+    assert_eq!(rt; shelf.blocks().checked_sub(before), Some(u64::from(puts)));
+    failing.fail_after(calls.saturating_sub(1));
+    let failed = put(rt, alloc, &tree, &mut failing, run, 8);
+    assert_eq!(rt; failed, Err(MacError::ShelfFault));
+    let most = if after.levels > tree.levels { 12 } else { 9 };
+    assert!(rt; reads <= run.2 / 31 + 9 && puts <= run.2 / 31 + most);
+    Ok(())
+}
+
+fn assert_way_counts(
+    rt: &impl Abort,
+    alloc: Global,
+    made: Extent,
+    index: u32,
+    nodes: u16,
+) -> Result<(), Fail> {
+    let empty = ObjTree {
+        levels: 1,
+        top: None,
+    };
+    let mut shelf = MemShelf::fresh(alloc)?;
+    let tree = put(rt, alloc, &empty, &mut shelf, made, 7)?;
+    assert!(rt; 1 <= tree.levels && tree.levels <= 5);
+    assert!(rt; index < room(tree.levels) && nodes <= u16::from(tree.levels));
+    shelf.fail_after(u64::from(nodes));
+    assert!(rt; lookup(&tree, &mut shelf, index, 512).is_ok());
+    shelf.fail_after(u64::from(nodes).saturating_sub(1));
+    let failed = lookup(&tree, &mut shelf, index, 512);
+    assert_eq!(rt; failed, Err(MacError::ShelfFault));
+    Ok(())
+}
+
+#[test]
+fn runs_and_lookups_make_few_calls(rt: HostRuntime) -> Result<(), Fail> {
+    for row in RUNS {
+        assert_run_counts(&rt, rt.alloc(), row)?;
+    }
+    for (made, index, nodes) in WAYS {
+        assert_way_counts(&rt, rt.alloc(), made, index, nodes)?;
+    }
     Ok(())
 }

@@ -125,7 +125,7 @@ module _ (c : Ciphers) (p : Plain) (name : List ℕ) (opts : Options) (told : To
     id = refl;
     new = new;
     parent = parent_there (parent_in p.tree.rows (parent_name name)) known;
-    origin = refl;
+    origin = omega arith;
     roots_kept = λ id apart. kept_unless root (p.tree.last + 1) id (new_props opts told) p.roots apart;
     wrapped_kept = λ id apart. kept_unless encrypted (p.tree.last + 1) id (new_stored (p.tree.last + 1) opts told) p.wrapped apart;
     loaded_kept = λ id apart. kept_unless root (p.tree.last + 1) id told.key p.loaded apart;
@@ -167,7 +167,8 @@ module _ (c : Ciphers) (p : Plain) (name : List ℕ) (opts : Options) (told : To
         owner = λ crypt. absurd (cc);
         root = λ root. absurd (no_root_before root);
         recorded = λ found. absurd (no_record_before found);
-        record_there = λ crypt. absurd (cc);
+        record_there = λ crypt first. absurd (cc);
+        origin = λ clone. absurd (clone refl);
       })
       (keys_kept c p _ _ _ _ (grows false false) sound.keys sound.keys.loaded sound.keys.roots (λ root key found owner. absurd (let none : None ≡ Some root = sym plain_owner ∙ owner in cc)))
 
@@ -189,9 +190,10 @@ module _ (c : Ciphers) (p : Plain) (name : List ℕ) (opts : Options) (told : To
         rising_roots = rising_unless true (p.tree.last + 1) (new_props opts told) p.roots sound.tree.roots;
         rising_records = rising_unless true (p.tree.last + 1) (new_stored (p.tree.last + 1) opts told) p.wrapped sound.tree.records;
         owner = λ crypt. ap (λ (owner : Option ℕ). is_some owner) root_owner;
-        root = λ root. refl;
-        recorded = λ found. refl;
-        record_there = λ crypt. ap (λ (stored : Option Stored). is_some stored) (at_id-with_id (p.tree.last + 1) (new_stored (p.tree.last + 1) opts told) p.wrapped);
+        root = λ root. (refl, refl);
+        recorded = λ found. (refl, refl);
+        origin = λ clone. absurd (clone refl);
+        record_there = λ crypt first. ap (λ (stored : Option Stored). is_some stored) (at_id-with_id (p.tree.last + 1) (new_stored (p.tree.last + 1) opts told) p.wrapped);
       })
       (keys_kept c p _ _ _ _ (grows true true) sound.keys (rising_unless true (p.tree.last + 1) told.key p.loaded sound.keys.loaded) loaded_roots
       (λ root key found owner.
@@ -221,9 +223,10 @@ module _ (c : Ciphers) (p : Plain) (name : List ℕ) (opts : Options) (told : To
         owner = λ kind.
             ap (λ (owner : Option ℕ). is_some owner) (heir_owner parent there)
             ∙ sound.tree.owners parent.id (parent, (parent_found p.tree.rows (parent_name name) parent sound.tree.tree.rising there).1, crypt);
-        root = λ root. refl;
-        recorded = λ found. refl;
-        record_there = λ kind. ap (λ (stored : Option Stored). is_some stored) (at_id-with_id (p.tree.last + 1) (new_stored (p.tree.last + 1) opts told) p.wrapped);
+        root = λ root. (refl, refl);
+        recorded = λ found. (refl, refl);
+        origin = λ clone. absurd (clone refl);
+        record_there = λ kind first. ap (λ (stored : Option Stored). is_some stored) (at_id-with_id (p.tree.last + 1) (new_stored (p.tree.last + 1) opts told) p.wrapped);
       })
       (keys_kept c p _ _ _ _ (grows false true) sound.keys sound.keys.loaded sound.keys.roots
       (λ root key found owner.

@@ -8,7 +8,7 @@ use Rattle.dataset_tree.proofs.TreeLemmas.{IsTree-push}
 use Rattle.encryption_roots.specs.declared.props.Props.{Props}
 use Rattle.encryption_roots.specs.ById.{at_id}
 use Rattle.encryption_roots.specs.Owners.{family}
-use Rattle.encryption_roots.proofs.OwnerLemmas.{Falls, falls_in_tree, up_to, at_most_all, enough_steps, enough_origins, family_by_walking}
+use Rattle.encryption_roots.proofs.OwnerLemmas.{Falls, falls_in_tree, up_to, at_most_all, enough_steps, enough_origins, family_by_walking, family_of_clone}
 use Rattle.key_machine.specs.Plain.{Plain, Stored, owner_of, has_key, has_key_of}
 use Rattle.key_machine.specs.Sound.{IsEncrypted, SoundUsers, SoundSlots}
 use Rattle.key_machine.proofs.CreateLawsRows.{AreGiven, row_is_given, row_of_other, row_of_new, owner_kept, owner_is_given, family_kept, family_is_given}
@@ -23,13 +23,13 @@ slots_kept p row roots wrapped loaded sound = record { slots = sound.slots; gene
 pub users_kept : (p : Plain) (row : Row) (roots : List (ℕ × Props)) (wrapped : List (ℕ × Stored)) (loaded : List (ℕ × List ℕ)) → SoundUsers p → SoundUsers (grown p row roots wrapped loaded)
 users_kept p row roots wrapped loaded sound = record { one = sound.one; mapped = sound.mapped; present = sound.present; few = sound.few; riders = sound.riders }
 
--- The row is new and no clone, and what is known of other ids stays.
+-- The row is new, and what is known of other ids stays.
 pub record Grows (p : Plain) (row : Row) (roots : List (ℕ × Props)) (wrapped : List (ℕ × Stored)) (loaded : List (ℕ × List ℕ)) : Type 0 where
   pub tree : IsTree p.tree
   pub id : row.id ≡ p.tree.last + 1
   pub new : is_some (row_named row.name p.tree.rows) ≡ false
   pub parent : parent_in p.tree.rows (parent_name row.name) ≡ Some row.parent
-  pub origin : row.origin ≡ 0
+  pub origin : row.origin ≤ p.tree.last
   pub roots_kept : (id : ℕ) → id ≢ row.id → at_id id roots ≡ at_id id p.roots
   pub wrapped_kept : (id : ℕ) → id ≢ row.id → at_id id wrapped ≡ at_id id p.wrapped
   pub loaded_kept : (id : ℕ) → id ≢ row.id → at_id id loaded ≡ at_id id p.loaded
@@ -48,7 +48,7 @@ module _ (p : Plain) (row : Row) (roots : List (ℕ × Props)) (wrapped : List (
   above = omega (arith, g.id)
 
   pub grown_tree : IsTree (grown p row roots wrapped loaded).tree
-  grown_tree = IsTree-push p.tree row g.tree g.id g.new g.parent (omega (arith, g.origin))
+  grown_tree = IsTree-push p.tree row g.tree g.id g.new g.parent g.origin
 
   pub new_found : row_of row.id (p.tree.rows ++ row ∷ []) ≡ Some row
   new_found = row_of_new p.tree.last p.tree.rows row given above
@@ -91,12 +91,17 @@ module _ (p : Plain) (row : Row) (roots : List (ℕ × Props)) (wrapped : List (
       let within : family p.tree.rows id ≤ p.tree.last = family_is_given p.tree.last p.tree.rows falls (length p.tree.rows) id there in
       omega (arith, above)
 
-  -- the new dataset is its own family
-  pub new_family : family (p.tree.rows ++ row ∷ []) row.id ≡ row.id
-  new_family =
+  -- the new dataset is its own family, or it is of its origin's
+  pub new_family : row.origin ≡ 0 → family (p.tree.rows ++ row ∷ []) row.id ≡ row.id
+  new_family origin =
       let found : row_of row.id (p.tree.rows ++ row ∷ []) ≡ Some row = new_found in
-      let origin : row.origin ≡ 0 = g.origin in
       family_by_walking (grown p row roots wrapped loaded).tree row.id grown_tree ∙ rw (found, origin) refl
+
+  pub origin_apart : row.origin ≢ row.id
+  origin_apart same = let given : row.origin ≤ p.tree.last = g.origin in omega (arith, given, above, same)
+
+  pub clone_family : row.origin ≢ 0 → family (p.tree.rows ++ row ∷ []) row.id ≡ family p.tree.rows row.origin
+  clone_family clone = family_of_clone (grown p row roots wrapped loaded).tree row.id row (grown_tree, new_found) clone ∙ family_stays row.origin origin_apart
 
   -- an owner's key stays loaded
   pub key_stays : (id : ℕ) → id ≢ row.id → has_key p id ≡ true → has_key (grown p row roots wrapped loaded) id ≡ true

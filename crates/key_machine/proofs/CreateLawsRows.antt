@@ -39,7 +39,7 @@ next_is_given last id rows row falls given found =
     let below : (row.parent < id) × (row.origin < id) = found_below id rows row falls found in
     elim (row.origin == 0) as (λ b. cond b row.parent row.origin ≤ last) [ true ↦ omega (arith, below.0) | false ↦ omega (arith, below.1) ]
 
-owner_from_kept : (roots more : List (ℕ × Props)) (id : ℕ) (found : Option Row) (f g : ℕ → Option ℕ) → at_id id more ≡ at_id id roots
+pub owner_from_kept : (roots more : List (ℕ × Props)) (id : ℕ) (found : Option Row) (f g : ℕ → Option ℕ) → at_id id more ≡ at_id id roots
     → ((row : Row) → found ≡ Some row → f (next_to_owner row) ≡ g (next_to_owner row)) → owner_from more id found f ≡ owner_from roots id found g
 owner_from_kept roots more id None f g props agree = refl
 owner_from_kept roots more id (Some row) f g props agree =
@@ -80,7 +80,7 @@ owner_is_given last rows roots given (suc steps) id root h =
     owner_from_given last roots id (row_of id rows) (λ next. owner_within steps rows roots next) root
     (λ row found. row_is_given id last rows row given found) (λ next. owner_is_given last rows roots given steps next root) h
 
-family_from_kept : (id : ℕ) (found : Option Row) (f g : ℕ → ℕ) → ((row : Row) → found ≡ Some row → f row.origin ≡ g row.origin) → family_from id found f ≡ family_from id found g
+pub family_from_kept : (id : ℕ) (found : Option Row) (f g : ℕ → ℕ) → ((row : Row) → found ≡ Some row → f row.origin ≡ g row.origin) → family_from id found f ≡ family_from id found g
 family_from_kept id None f g agree = refl
 family_from_kept id (Some row) f g agree = ap (λ further. cond (row.origin == 0) id further) (agree row refl)
 

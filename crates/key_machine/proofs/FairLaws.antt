@@ -17,6 +17,7 @@ use Rattle.encryption_roots.specs.declared.command.KeyCmd.TheVariants as command
 use Rattle.encryption_roots.specs.declared.kit.LineKit.{LineKit}
 use Rattle.encryption_roots.specs.ById.{at_id}
 use Rattle.salt_rotation.specs.Places.{master_place, hmac_place, guid_place, vector_place}
+use Rattle.key_machine.specs.Mount.{free_slot, mounted_on, mounted_at, mount_done}
 use Rattle.key_machine.specs.Plain.{Plain, Ciphers}
 use Rattle.key_machine.specs.Create.{makes_root, makes_encrypted, parent_row, parent_key, create_key, told_encrypted, new_format, new_iters, new_salt, new_suite, seeded_master, seeded_record}
 use Rattle.key_machine.specs.Change.{change_families, change_done}
@@ -29,6 +30,7 @@ use Rattle.key_machine.specs.Sound.{Sound}
 use Rattle.key_machine.specs.Step.{key_step, target, told, refusal_of, in_use, IsAccepted}
 use Rattle.key_machine.specs.Told.{Told, no_key, nothing_told, key_of, seed_of}
 use Rattle.key_machine.specs.Unload.{InUse, unload_done, unloaded}
+use Rattle.key_machine.specs.Unmount.{unmount_done}
 use Rattle.key_machine.specs.Fair.{IsMaster, AreSound, IsFair, IsGenuine, AllOpen, AllKept, OpensAll}
 use Rattle.key_machine.proofs.SoundLemmas.{done, by_step, accepted_step, refused_step, refused_by_material, step_sound}
 use Rattle.key_machine.proofs.CreateLawsStep.{IsFree, free, created_sound}
@@ -37,6 +39,9 @@ use Rattle.key_machine.proofs.ChangeLaws.{IsChangeable, changeable, change_sound
 use Rattle.key_machine.proofs.InheritLaws.{IsInheritable, inheritable, IsAbove, owner_above, has_above, key_above_is, inherit_sound}
 use Rattle.key_machine.proofs.RekeyFair.{created_kept, change_fair, inherit_fair}
 use Rattle.key_machine.proofs.UnloadLaws.{unload_sound}
+use Rattle.key_machine.proofs.MountLaws.{mount_sound, unmount_sound}
+use Rattle.key_machine.proofs.CloneLaws.{clone_sound, clone_tree}
+use Rattle.key_machine.proofs.DestroyLaws.{destroy_sound, destroy_tree}
 
 -- ---- a seeded record opens
 
@@ -154,12 +159,12 @@ told_fair c p (commands.Load name check_only place) kit are s = load_fair c p na
 told_fair c p (commands.Unload name) kit are s = inr (record { owned = tt; families = refl; opened = All-nil _; kept = All-nil _ })
 told_fair c p (commands.Change name opts load_first) kit are s = change_fair c are p s name opts load_first kit
 told_fair c p (commands.Inherit name load_first) kit are s = inherit_fair c are p s name load_first kit
-told_fair c p (commands.Mount name) kit are s = nothing_fair c p (commands.Mount name) refl
-told_fair c p (commands.Unmount name) kit are s = nothing_fair c p (commands.Unmount name) refl
+told_fair c p (commands.Mount name) kit are s = inr (record { owned = tt; families = refl; opened = All-nil _; kept = All-nil _ })
+told_fair c p (commands.Unmount name) kit are s = inr (record { owned = tt; families = refl; opened = All-nil _; kept = All-nil _ })
 told_fair c p (commands.Get name prop) kit are s = inr (record { owned = tt; families = refl; opened = All-nil _; kept = All-nil _ })
-told_fair c p (commands.Clone from name) kit are s = nothing_fair c p (commands.Clone from name) refl
+told_fair c p (commands.Clone from name) kit are s = inr (record { owned = tt; families = refl; opened = All-nil _; kept = All-nil _ })
 told_fair c p (commands.Receive name props wrapped block) kit are s = nothing_fair c p (commands.Receive name props wrapped block) refl
-told_fair c p (commands.Destroy name snaps) kit are s = nothing_fair c p (commands.Destroy name snaps) refl
+told_fair c p (commands.Destroy name snaps) kit are s = inr (record { owned = tt; families = refl; opened = All-nil _; kept = All-nil _ })
 
 -- ---- fair steps keep soundness
 
@@ -235,12 +240,15 @@ keeps c p (commands.Change name opts load_first) tells sound fair =
 keeps c p (commands.Inherit name load_first) tells sound fair =
     let command : KeyCmd = commands.Inherit name load_first in
     step_sound c p command tells sound (λ accepted. inherit_kept c p name load_first tells sound accepted fair (target p command) refl)
-keeps c p (commands.Mount name) tells sound fair = sound
-keeps c p (commands.Unmount name) tells sound fair = sound
+keeps c p (commands.Mount name) tells sound fair =
+    step_sound c p (commands.Mount name) tells sound (λ accepted. mount_sound c p name sound accepted.state (target p (commands.Mount name)) refl)
+keeps c p (commands.Unmount name) tells sound fair = step_sound c p (commands.Unmount name) tells sound (λ accepted. unmount_sound c p (target p (commands.Unmount name)) sound)
 keeps c p (commands.Get name prop) tells sound fair = step_sound c p (commands.Get name prop) tells sound (λ accepted. get_kept c p prop (target p (commands.Get name prop)) sound)
-keeps c p (commands.Clone from name) tells sound fair = sound
+keeps c p (commands.Clone from name) tells sound fair =
+    step_sound c p (commands.Clone from name) tells sound (λ accepted. clone_sound c p from name sound accepted.state (target p (commands.Clone from name)) refl)
 keeps c p (commands.Receive name props wrapped block) tells sound fair = sound
-keeps c p (commands.Destroy name snaps) tells sound fair = sound
+keeps c p (commands.Destroy name snaps) tells sound fair =
+    step_sound c p (commands.Destroy name snaps) tells sound (λ accepted. destroy_sound c p name snaps sound accepted.state (target p (commands.Destroy name snaps)) refl)
 
 -- ---- trees stay trees
 
@@ -272,6 +280,22 @@ get_tree : (p : Plain) (prop : Prop) (at : Option ℕ) → (get_done p prop at).
 get_tree p prop None = refl
 get_tree p prop (Some id) = refl
 
+mounted_on_tree : (p : Plain) (id : ℕ) (free : Option ℕ) → (mounted_on p id free).state.tree ≡ p.tree
+mounted_on_tree p id None = refl
+mounted_on_tree p id (Some slot) = refl
+
+mounted_at_tree : (p : Plain) (id : ℕ) (place : Option ℕ) → (mounted_at p id place).state.tree ≡ p.tree
+mounted_at_tree p id None = mounted_on_tree p id (free_slot p)
+mounted_at_tree p id (Some slot) = refl
+
+mount_tree : (p : Plain) (at : Option ℕ) → (mount_done p at).state.tree ≡ p.tree
+mount_tree p None = refl
+mount_tree p (Some id) = mounted_at_tree p id (at_id id p.mapped)
+
+unmount_tree : (p : Plain) (at : Option ℕ) → (unmount_done p at).state.tree ≡ p.tree
+unmount_tree p None = refl
+unmount_tree p (Some id) = refl
+
 carried_tree : (p : Plain) (command : KeyCmd) (tells : Told) → IsTree p.tree → refusal_of p command ≡ None → IsTree (done p command tells).state.tree
 carried_tree p (commands.Create name opts) tells tree accepted =
     let is : IsFree p name opts = free p name opts accepted in
@@ -280,12 +304,13 @@ carried_tree p (commands.Load name check_only place) tells tree accepted = subst
 carried_tree p (commands.Unload name) tells tree accepted = subst IsTree (sym (unload_tree p (in_use p (commands.Unload name)) (target p (commands.Unload name)))) tree
 carried_tree p (commands.Change name opts load_first) tells tree accepted = subst IsTree (sym (change_tree p opts tells (target p (commands.Change name opts load_first)))) tree
 carried_tree p (commands.Inherit name load_first) tells tree accepted = subst IsTree (sym (inherit_tree p tells (target p (commands.Inherit name load_first)))) tree
-carried_tree p (commands.Mount name) tells tree accepted = tree
-carried_tree p (commands.Unmount name) tells tree accepted = tree
+carried_tree p (commands.Mount name) tells tree accepted = subst IsTree (sym (mount_tree p (target p (commands.Mount name)))) tree
+carried_tree p (commands.Unmount name) tells tree accepted = subst IsTree (sym (unmount_tree p (target p (commands.Unmount name)))) tree
 carried_tree p (commands.Get name prop) tells tree accepted = subst IsTree (sym (get_tree p prop (target p (commands.Get name prop)))) tree
-carried_tree p (commands.Clone from name) tells tree accepted = tree
+carried_tree p (commands.Clone from name) tells tree accepted = clone_tree p from name tree accepted (target p (commands.Clone from name)) refl
 carried_tree p (commands.Receive name props wrapped block) tells tree accepted = tree
-carried_tree p (commands.Destroy name snaps) tells tree accepted = tree
+carried_tree p (commands.Destroy name snaps) tells tree accepted =
+    destroy_tree p name snaps tree accepted (in_use p (commands.Destroy name snaps)) (target p (commands.Destroy name snaps)) refl
 
 pub step_tree : (p : Plain) (command : KeyCmd) (tells : Told) → IsTree p.tree → IsTree (key_step p command tells).state.tree
 step_tree p command tells tree =

@@ -9,6 +9,15 @@ pub mod CreateLawsStep
 pub mod KeyLists
 pub mod LoadLaws
 pub mod UnloadLaws
+pub mod NamedLaws
+pub mod SlotLaws
+pub mod MountLaws
+pub mod MountSteps
+pub mod CloneLaws
+pub mod CloneSteps
+pub mod DestroyLawsRows
+pub mod DestroyLaws
+pub mod DestroySteps
 pub mod FairLaws
 pub mod HoldLaws
 pub mod RefusalLaws

@@ -63,7 +63,7 @@ module _ (c : Ciphers) (p : Plain) (s : Sound c p) (keep : ℕ → Bool) (idle :
       ⊎_elim (λ (kept : keep mapping.0 ≡ true). kept)
       (λ (gone : keep mapping.0 ≡ false). absurd (let none : is_used p mapping ≡ false = unused (users_of p mapping) (closes gone) in cc)) (cases_Bool (keep mapping.0))
 
-  mounts_kept : All (λ id. is_some (at_id id left) ≡ true) p.mounted
+  pub mounts_kept : All (λ id. is_some (at_id id left) ≡ true) p.mounted
   mounts_kept = λ k d within.
       let id : ℕ = get_or p.mounted k d in
       let mounted : is_mounted p id ≡ true = list_any_at (λ other. other == id) p.mounted k d within (eq-eqb id id refl) in
@@ -72,7 +72,7 @@ module _ (c : Ciphers) (p : Plain) (s : Sound c p) (keep : ℕ → Bool) (idle :
       let found : at_id id left ≡ at_id id p.mapped = at_id-filter keep id p.mapped (used_kept (id, there.0) there.1 (mounted_used p (id, there.0) mounted)) in
       rw found (s.mappings.mounts k d within)
 
-  holds_kept : All (λ hold. Contains (map (λ mapping. mapping.1) left) hold.slot) p.users
+  pub holds_kept : All (λ hold. Contains (map (λ mapping. mapping.1) left) hold.slot) p.users
   holds_kept = λ k d within.
       let hold : Hold = get_or p.users k d in
       let slot : Contains (map (λ mapping. mapping.1) p.mapped) hold.slot = s.users.mapped k d within in
@@ -89,7 +89,7 @@ module _ (c : Ciphers) (p : Plain) (s : Sound c p) (keep : ℕ → Bool) (idle :
       (contains_kept (λ m. keep m.0) (λ m. m.1) p.mapped j none inside kept)
 
   -- where keys stay sound, so does the state
-  closing_sound : (keys : List (ℕ × List ℕ)) → SoundKeys c (record p { mapped = left; loaded = keys })
+  pub closing_sound : (keys : List (ℕ × List ℕ)) → SoundKeys c (record p { mapped = left; loaded = keys })
       → All (λ mapping. has_key (record p { mapped = left; loaded = keys }) mapping.0 ≡ true) left
       → Sound c (record p { mapped = left; loaded = keys })
   closing_sound keys sound have = record {

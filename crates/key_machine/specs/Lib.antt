@@ -13,8 +13,16 @@ pub mod Change
 pub mod Inherit
 pub mod Rekeyed
 pub mod Get
+pub mod Mount
+pub mod Unmount
+pub mod Reap
+pub mod Clone
+pub mod Destroy
+pub mod Counts
 pub mod Step
 pub mod Busy
+pub mod Free
+pub mod Kept
 pub mod Fair
 pub mod Sample
 pub mod Plan

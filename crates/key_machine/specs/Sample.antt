@@ -6,6 +6,7 @@ use Rattle.std.specs.Prelude.{ℕ, List, Result, Ok, [], ◌∷◌, ◌++◌, re
 use Rattle.dataset_tree.specs.declared.kinds.Kind.TheVariants.{Plain as PlainKind, Crypt}
 use Rattle.dataset_tree.specs.declared.refusal.Refusal.{Refusal}
 use Rattle.dataset_tree.specs.declared.kinds.Format.{Format}
+use Rattle.dataset_tree.specs.declared.tree.Row.{Row}
 use Rattle.dataset_tree.specs.declared.kinds.Format.TheVariants.{Raw, Hex, Passphrase}
 use Rattle.encryption_roots.specs.declared.props.Location.TheVariants.{Prompt, File}
 use Rattle.encryption_roots.specs.Options.{no_options}
@@ -17,18 +18,18 @@ use Rattle.encryption_roots.specs.declared.kit.LineKit.{LineKit}
 use Rattle.encryption_roots.specs.declared.props.Props.{Props}
 use Rattle.key_machine.specs.Plain.{Plain, Ciphers}
 
+abbrev pub sample_rows : List Row
+sample_rows =
+    record { id = 1; parent = 0; name = codes "tank"; kind = Crypt; origin = 0 }
+    ∷ record { id = 2; parent = 1; name = codes "tank/a"; kind = Crypt; origin = 0 }
+    ∷ record { id = 3; parent = 1; name = codes "tank/b"; kind = Crypt; origin = 0 }
+    ∷ record { id = 4; parent = 0; name = codes "copy"; kind = Crypt; origin = 2 }
+    ∷ record { id = 5; parent = 0; name = codes "lake"; kind = PlainKind; origin = 0 }
+    ∷ []
+
 abbrev pub sample : Plain
 sample = record {
-  tree = record {
-    rows =
-        record { id = 1; parent = 0; name = codes "tank"; kind = Crypt; origin = 0 }
-        ∷ record { id = 2; parent = 1; name = codes "tank/a"; kind = Crypt; origin = 0 }
-        ∷ record { id = 3; parent = 1; name = codes "tank/b"; kind = Crypt; origin = 0 }
-        ∷ record { id = 4; parent = 0; name = codes "copy"; kind = Crypt; origin = 2 }
-        ∷ record { id = 5; parent = 0; name = codes "lake"; kind = PlainKind; origin = 0 }
-        ∷ [];
-    last = 5;
-  };
+  tree = record { rows = sample_rows; last = 5 };
   roots = (1, record { format = Raw; place = File (codes "/t"); iters = 0; salt = 0 }) ∷ [];
   wrapped = (1, record { wrapped = 11 ∷ []; block = 512 }) ∷ (2, record { wrapped = 22 ∷ []; block = 512 })
       ∷ (3, record { wrapped = 33 ∷ []; block = 512 }) ∷ [];
@@ -97,3 +98,17 @@ plain_key Passphrase material iters salt = Ok (salt ∷ iters ∷ [])
 
 abbrev pub with_plain_keys : Ciphers → Ciphers
 with_plain_keys c = record c { wkey = plain_key }
+
+-- the host where slot 2 has no generation left, and the one where no slot has
+abbrev pub used_up : Plain
+used_up = record sample { gens = (1 ∷ 1 ∷ 1073741823 ∷ []) ++ replicate 253 0 }
+
+abbrev pub all_used_up : Plain
+all_used_up = record sample { gens = replicate 256 1073741823 }
+
+-- the host with as many datasets as there may be
+abbrev pub full : Plain
+full = record sample { tree = record {
+  rows = sample_rows ++ replicate 251 (record { id = 6; parent = 0; name = codes "more"; kind = PlainKind; origin = 0 });
+  last = 6;
+} }

@@ -11,15 +11,20 @@ use Rattle.encryption_roots.specs.declared.command.KeyCmd.{KeyCmd}
 use Rattle.encryption_roots.specs.declared.command.KeyCmd.TheVariants as commands
 use Rattle.encryption_roots.specs.declared.kit.LineKit.{LineKit}
 use Rattle.key_machine.specs.Change.{change_cases, change_material, change_wanted, told_change, change_done}
+use Rattle.key_machine.specs.Clone.{clone_cases, clone_done}
 use Rattle.key_machine.specs.Create.{create_cases, create_material, create_wanted, told_create, create_done}
+use Rattle.key_machine.specs.Destroy.{destroy_cases, destroy_done}
 use Rattle.key_machine.specs.Get.{get_cases, get_done}
 use Rattle.key_machine.specs.Inherit.{inherit_cases, inherit_material, inherit_wanted, told_inherit, inherit_done}
 use Rattle.key_machine.specs.Load.{load_cases, load_material, load_wanted, told_load, load_done}
+use Rattle.key_machine.specs.Mount.{mount_cases, mount_done}
 use Rattle.key_machine.specs.Plain.{Plain, Ciphers}
+use Rattle.key_machine.specs.Reap.{own_in_use}
 use Rattle.key_machine.specs.Refusals.{first_of, first_refusal, not_built}
 use Rattle.key_machine.specs.Reply.{Stepped, refused, unless_refused}
 use Rattle.key_machine.specs.Told.{Wanted, nothing_wanted, Told, nothing_told}
 use Rattle.key_machine.specs.Unload.{InUse, first_in_use, unload_cases, unload_done}
+use Rattle.key_machine.specs.Unmount.{unmount_cases, unmount_done}
 
 -- the refusal that the state decides
 abbrev pub refusal_of : Plain → KeyCmd → Option Refusal
@@ -28,12 +33,12 @@ refusal_of p (commands.Load name check_only place) = first_of (load_cases p name
 refusal_of p (commands.Unload name) = first_of (unload_cases p name)
 refusal_of p (commands.Change name opts load_first) = first_of (change_cases p name opts load_first)
 refusal_of p (commands.Inherit name load_first) = first_of (inherit_cases p name load_first)
-refusal_of p (commands.Mount name) = Some not_built
-refusal_of p (commands.Unmount name) = Some not_built
+refusal_of p (commands.Mount name) = first_of (mount_cases p name)
+refusal_of p (commands.Unmount name) = first_of (unmount_cases p name)
 refusal_of p (commands.Get name prop) = first_of (get_cases p name)
-refusal_of p (commands.Clone from name) = Some not_built
+refusal_of p (commands.Clone from name) = first_of (clone_cases p from name)
 refusal_of p (commands.Receive name props wrapped block) = Some not_built
-refusal_of p (commands.Destroy name snaps) = Some not_built
+refusal_of p (commands.Destroy name snaps) = first_of (destroy_cases p name snaps)
 
 -- what a command takes that the state doesn't refuse
 abbrev pub wanted : Plain → KeyCmd → Wanted
@@ -80,19 +85,19 @@ material_cases p (commands.Destroy name snaps) told = []
 abbrev pub material_refusal : Plain → KeyCmd → Told → Option Refusal
 material_refusal p command told = first_refusal (material_cases p command told)
 
--- the dataset that a command is about, where it is there
+-- the dataset that a command is about, where it is there; for a clone, that which it is made from
 abbrev pub target : Plain → KeyCmd → Option ℕ
 target p (commands.Create name opts) = None
 target p (commands.Load name check_only place) = id_named name p.tree.rows
 target p (commands.Unload name) = id_named name p.tree.rows
 target p (commands.Change name opts load_first) = id_named name p.tree.rows
 target p (commands.Inherit name load_first) = id_named name p.tree.rows
-target p (commands.Mount name) = None
-target p (commands.Unmount name) = None
+target p (commands.Mount name) = id_named name p.tree.rows
+target p (commands.Unmount name) = id_named name p.tree.rows
 target p (commands.Get name prop) = id_named name p.tree.rows
-target p (commands.Clone from name) = None
+target p (commands.Clone from name) = id_named from p.tree.rows
 target p (commands.Receive name props wrapped block) = None
-target p (commands.Destroy name snaps) = None
+target p (commands.Destroy name snaps) = id_named name p.tree.rows
 
 -- the effect, by what the command's closes found
 abbrev pub carried_out : Plain → KeyCmd → Told → Option InUse → Option ℕ → Stepped
@@ -101,15 +106,15 @@ carried_out p (commands.Load name check_only place) told found at = load_done p 
 carried_out p (commands.Unload name) told found at = unload_done p found at
 carried_out p (commands.Change name opts load_first) told found at = change_done p opts told at
 carried_out p (commands.Inherit name load_first) told found at = inherit_done p told at
-carried_out p (commands.Mount name) told found at = refused p not_built
-carried_out p (commands.Unmount name) told found at = refused p not_built
+carried_out p (commands.Mount name) told found at = mount_done p at
+carried_out p (commands.Unmount name) told found at = unmount_done p at
 carried_out p (commands.Get name prop) told found at = get_done p prop at
-carried_out p (commands.Clone from name) told found at = refused p not_built
+carried_out p (commands.Clone from name) told found at = clone_done p name at
 carried_out p (commands.Receive name props wrapped block) told found at = refused p not_built
-carried_out p (commands.Destroy name snaps) told found at = refused p not_built
+carried_out p (commands.Destroy name snaps) told found at = destroy_done p found at
 
 -- what the closes of a command find by the plain state's own users: those of a root's mappings, where its key
--- is unloaded
+-- is unloaded, and that of a dataset's own, where it is destroyed
 abbrev pub in_use : Plain → KeyCmd → Option InUse
 in_use p (commands.Create name opts) = None
 in_use p (commands.Load name check_only place) = None
@@ -121,7 +126,7 @@ in_use p (commands.Unmount name) = None
 in_use p (commands.Get name prop) = None
 in_use p (commands.Clone from name) = None
 in_use p (commands.Receive name props wrapped block) = None
-in_use p (commands.Destroy name snaps) = None
+in_use p (commands.Destroy name snaps) = option_and_then (own_in_use p) (id_named name p.tree.rows)
 
 -- the step of a command whose closes found this mapping in use, or none
 abbrev pub key_step_found : Option InUse → Plain → KeyCmd → Told → Stepped

@@ -87,7 +87,7 @@ commands_sized = (
       (λ name. tt, ((λ _ name. tt), ((λ _. tt), tt))),
       (
         (λ settings all name. fold_sized settings no_options tt all, ((λ settings all name. if_sized (is_set settings kinds.Inherit) (InheritKey name (is_set settings kinds.LoadFirst)) tt), tt)),
-        ((λ prop name. tt, tt), ((tt, tt), tt)),
+        ((λ name. tt, tt), ((λ name. tt, tt), ((λ prop name. tt, tt), ((tt, tt), ((tt, tt), tt))))),
       ),
     ),
   ),

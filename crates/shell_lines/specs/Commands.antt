@@ -3,7 +3,7 @@ use Rattle.std.specs.Prelude.{ℕ, List, [], ◌∷◌, if◌then◌else◌}
 use Rattle.std.specs.declared.option.Option.TheVariants.{Some, None}
 use lib.Chars.{codes}
 use Rattle.shell_lines.specs.declared.line.Line.{Line}
-use Rattle.shell_lines.specs.declared.line.Line.TheVariants.{Create, LoadKey, LoadBelow, LoadAll, UnloadKey, UnloadBelow, UnloadAll, ChangeKey, InheritKey, Get, List as ListSets}
+use Rattle.shell_lines.specs.declared.line.Line.TheVariants.{Create, LoadKey, LoadBelow, LoadAll, UnloadKey, UnloadBelow, UnloadAll, ChangeKey, InheritKey, Mount, Unmount, Get, List as ListSets, Counts}
 use Rattle.shell_lines.specs.declared.setting.OptionKind.TheVariants.{Encryption, KeyFormat, KeyLocation, Iterations, RecordSize, CheckOnly, LoadFrom, Recursive, AllRoots, LoadFirst, Inherit}
 use Rattle.shell_lines.specs.Settings.{options_with, load_place}
 use Rattle.shell_lines.specs.Reading.{a_name, a_property, the_word, is_set}
@@ -84,6 +84,20 @@ change_key = record {
   forms = change_form ∷ inherit_form ∷ [];
 }
 
+abbrev pub mount_form : Form
+mount_form = only_name (λ name. Mount name)
+
+-- `mount NAME`
+abbrev pub mount : Command
+mount = record { word = codes "mount"; options = []; forms = mount_form ∷ [] }
+
+abbrev pub unmount_form : Form
+unmount_form = only_name (λ name. Unmount name)
+
+-- `unmount NAME`
+abbrev pub unmount : Command
+unmount = record { word = codes "unmount"; options = []; forms = unmount_form ∷ [] }
+
 abbrev pub get_form : Form
 get_form = word_then a_property (λ prop. only_name (λ name. Get prop name))
 
@@ -95,5 +109,9 @@ get = record { word = codes "get"; options = []; forms = get_form ∷ [] }
 abbrev pub list : Command
 list = record { word = codes "list"; options = []; forms = end_as (Some ListSets) ∷ [] }
 
+-- `counts`
+abbrev pub counts : Command
+counts = record { word = codes "counts"; options = []; forms = end_as (Some Counts) ∷ [] }
+
 abbrev pub commands : List Command
-commands = create ∷ load_key ∷ unload_key ∷ change_key ∷ get ∷ list ∷ []
+commands = create ∷ load_key ∷ unload_key ∷ change_key ∷ mount ∷ unmount ∷ get ∷ list ∷ counts ∷ []

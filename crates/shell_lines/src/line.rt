@@ -89,6 +89,14 @@ pub enum Line {
         /// `-l`: the present key is fetched where it isn't loaded.
         load_first: bool,
     },
+    /// `mount NAME`
+    Mount {
+        name: Word,
+    },
+    /// `unmount NAME`
+    Unmount {
+        name: Word,
+    },
     /// `get PROP NAME`
     Get {
         prop: Prop,
@@ -96,6 +104,8 @@ pub enum Line {
     },
     /// `list`
     List,
+    /// `counts`: how many use each loaded key and each mapping.
+    Counts,
 }
 
 /// Why some bytes are no line.

@@ -6,7 +6,7 @@ ghost use Rattle.shell_lines.specs.Sized.{HasRecordSize};
 ghost use Rattle.shell_lines.specs.Grammar.{Spells, line_of, is_comment, first_unprintable};
 ghost use Rattle.std.specs.Str.{bytes_eq};
 ghost use Rattle.shell_lines.specs.Left.{words_left, end_of, read_by, placed, texts, Reads};
-ghost use Rattle.shell_lines.specs.Commands.{commands, create, create_form, load_key, load_form, load_below_form, load_all_form, unload_key, unload_form, unload_below_form, unload_all_form, change_key, change_form, inherit_form, get_form};
+ghost use Rattle.shell_lines.specs.Commands.{commands, create, create_form, load_key, load_form, load_below_form, load_all_form, unload_key, unload_form, unload_below_form, unload_all_form, change_key, change_form, inherit_form, mount_form, unmount_form, get_form};
 ghost use Rattle.shell_lines.specs.Forms.{line_from, form_from, end_from, better};
 ghost use Rattle.shell_lines.specs.Reading.{word_from, a_name, a_property, the_word, property_of};
 
@@ -98,10 +98,16 @@ fn parse_command(alloc: Global, command: PlacedWord<'_>, words: Words<'_>) -> Re
         parse_unload(alloc, words)
     } else if command.text == b"change-key".as_slice() {
         parse_change(alloc, words)
+    } else if command.text == b"mount".as_slice() {
+        parse_mount(alloc, words)
+    } else if command.text == b"unmount".as_slice() {
+        parse_unmount(alloc, words)
     } else if command.text == b"get".as_slice() {
         parse_get(alloc, words)
     } else if command.text == b"list".as_slice() {
         parse_end(Some(Line::List), words)
+    } else if command.text == b"counts".as_slice() {
+        parse_end(Some(Line::Counts), words)
     } else {
         Err(command.wrong())
     }
@@ -243,6 +249,22 @@ fn inherit_key(alloc: Global, mut words: Words<'_>) -> Result<Line, LineStop>
     let load_first = is_set(&settings, OptionKind::LoadFirst);
     let line = Line::InheritKey { name, load_first };
     parse_end(made_if(is_set(&settings, OptionKind::Inherit), line), words)
+}
+
+/// `mount NAME`
+fn parse_mount(alloc: Global, mut words: Words<'_>) -> Result<Line, LineStop>
+    ensures { Spells result (form_from (end_of words.entry) [] mount_form (words_left words.entry)) }
+{
+    let name = parse_name(alloc, &[], &mut words)?;
+    parse_end(Some(Line::Mount { name }), words)
+}
+
+/// `unmount NAME`
+fn parse_unmount(alloc: Global, mut words: Words<'_>) -> Result<Line, LineStop>
+    ensures { Spells result (form_from (end_of words.entry) [] unmount_form (words_left words.entry)) }
+{
+    let name = parse_name(alloc, &[], &mut words)?;
+    parse_end(Some(Line::Unmount { name }), words)
 }
 
 /// `get PROP NAME`

@@ -7,7 +7,7 @@ use std::alloc::Global;
 use std::test::Fail;
 
 /// Lines that aren't in the language, and the offset at which each is bad.
-const BAD_LINES: [(&[u8], u32); 47] = [
+const BAD_LINES: [(&[u8], u32); 49] = [
     (b"frob tank", 0),
     (b" #x", 1),
     (b"create  ", 8),
@@ -50,6 +50,8 @@ const BAD_LINES: [(&[u8], u32); 47] = [
     (b"change-key -o recordsize=512 tank", 14),
     (b"change-key -i -o keyformat=hex tank", 14),
     (b"change-key -o keyformat=hex -i tank", 28),
+    (b"mount a -o", 8),
+    (b"counts a", 7),
     (b"get", 3),
     (b"get foo tank", 4),
     (b"get keystatus", 13),
@@ -178,7 +180,10 @@ fn each_command_has_a_line(rt: HostRuntime) -> Result<(), Fail> {
         assert_eq!(rt; form_of(&line).1, flag, "at {bytes:?}");
     }
     assert!(rt; matches!(parse_line(alloc, b"get encryption a", 0)?, Line::Get { .. }));
+    assert!(rt; matches!(parse_line(alloc, b"mount -o", 0)?, Line::Mount { .. }));
+    assert!(rt; matches!(parse_line(alloc, b"unmount a", 0)?, Line::Unmount { .. }));
     assert!(rt; matches!(parse_line(alloc, b"  list ", 0)?, Line::List));
+    assert!(rt; matches!(parse_line(alloc, b"counts", 0)?, Line::Counts));
     bad_at_the_first_wrong_word();
     options_say_what_they_spell();
     record_sizes_are_in_form();
