@@ -64,15 +64,17 @@ lanes_looked_up t table js lanes long places = record {
 
 -- ---- bytes moved within each block
 
-pub moves_fit : (rows js : List ℕ) → HasLanes js (λ i. slice_index rows (i % 16)) → ((i : ℕ) → i < 16 → slice_index rows i < 16) → SwzOk w8 16 32 0 js
-moves_fit rows js lanes below =
+pub moves_fit : (rows js : List ℕ) (from : ℕ) → HasLanes js (λ i. slice_index rows (from + i % 16)) → ((i : ℕ) → i < 16 → slice_index rows (from + i) < 16)
+    → SwzOk w8 16 32 0 js
+moves_fit rows js from lanes below =
     let long = lanes.long in
     SwzOk-from_below w8 16 2 32 0 js refl (omega arith)
     (Each1-from_get_or (λ j. j < 16) js 0 (λ i lt. rw (lanes.each i (omega arith)) (below (i % 16) (omega arith))))
 
-pub lanes_moved : (v rows js : List ℕ) → HasLanes js (λ i. slice_index rows (i % 16)) → ((i : ℕ) → i < 16 → slice_index rows i < 16)
-    → HasLanes (swz_l w8 16 v 0 js) (λ i. slice_index v (16 * (i / 16) + slice_index rows (i % 16)))
-lanes_moved v rows js lanes below =
+pub lanes_moved : (v rows js : List ℕ) (from : ℕ) → HasLanes js (λ i. slice_index rows (from + i % 16))
+    → ((i : ℕ) → i < 16 → slice_index rows (from + i) < 16)
+    → HasLanes (swz_l w8 16 v 0 js) (λ i. slice_index v (16 * (i / 16) + slice_index rows (from + i % 16)))
+lanes_moved v rows js from lanes below =
     let long = lanes.long in
     record {
       long = length-swz_l w8 16 v 0 js ∙ long;
@@ -82,41 +84,43 @@ lanes_moved v rows js lanes below =
           ∙ rw (zero-add i, lanes.each i h) refl;
     }
 
--- ---- 32 bytes written over a part of 128
+-- ---- n numbers written over a part of a list of `total`
 
--- blocks with `part` from `at` on
-abbrev over_part : List ℕ → List ℕ → ℕ → List ℕ
-over_part blocks part at = take at blocks ++ (part ++ drop 32 (drop at blocks))
+-- the list with `part` from `at` on
+abbrev pub over_part : ℕ → List ℕ → List ℕ → ℕ → List ℕ
+over_part n xs part at = take at xs ++ (part ++ drop n (drop at xs))
 
-pub length_over_part : (blocks part : List ℕ) (at : ℕ) → length blocks ≡ 128 → at + 32 ≤ 128 → length part ≡ 32 → length (over_part blocks part at) ≡ 128
-length_over_part blocks part at size within long =
+pub length_over_part : (n total : ℕ) (xs part : List ℕ) (at : ℕ) → length xs ≡ total → at + n ≤ total → length part ≡ n
+    → length (over_part n xs part at) ≡ total
+length_over_part n total xs part at size within long =
     omega (
       arith,
-      length-append (take at blocks) (part ++ drop 32 (drop at blocks)),
-      length-append part (drop 32 (drop at blocks)),
-      length-take-le at blocks (omega arith),
-      length-drop 32 (drop at blocks),
-      length-drop at blocks,
+      length-append (take at xs) (part ++ drop n (drop at xs)),
+      length-append part (drop n (drop at xs)),
+      length-take-le at xs (omega arith),
+      length-drop n (drop at xs),
+      length-drop at xs,
     )
 
-pub over_part-below : (blocks part : List ℕ) (at k : ℕ) → length blocks ≡ 128 → at + 32 ≤ 128 → k < at → slice_index (over_part blocks part at) k ≡ slice_index blocks k
-over_part-below blocks part at k size within below =
-    let front = length-take-le at blocks (omega arith) in
-    get_or_append_left (take at blocks) (part ++ drop 32 (drop at blocks)) 0 k (omega arith) ∙ get_or-take at blocks k 0 below
+pub over_part-below : (n total : ℕ) (xs part : List ℕ) (at k : ℕ) → length xs ≡ total → at + n ≤ total → k < at
+    → slice_index (over_part n xs part at) k ≡ slice_index xs k
+over_part-below n total xs part at k size within below =
+    let front = length-take-le at xs (omega arith) in
+    get_or_append_left (take at xs) (part ++ drop n (drop at xs)) 0 k (omega arith) ∙ get_or-take at xs k 0 below
 
-pub over_part-within : (blocks part : List ℕ) (at k : ℕ) → length blocks ≡ 128 → at + 32 ≤ 128 → length part ≡ 32 → at ≤ k → k < at + 32
-    → slice_index (over_part blocks part at) k ≡ slice_index part (k - at)
-over_part-within blocks part at k size within long ge lt =
-    get_or-append_right (take at blocks) (part ++ drop 32 (drop at blocks)) at k 0 (length-take-le at blocks (omega arith)) ge
-    ∙ get_or_append_left part (drop 32 (drop at blocks)) 0 (k - at) (omega arith)
+pub over_part-within : (n total : ℕ) (xs part : List ℕ) (at k : ℕ) → length xs ≡ total → at + n ≤ total → length part ≡ n → at ≤ k → k < at + n
+    → slice_index (over_part n xs part at) k ≡ slice_index part (k - at)
+over_part-within n total xs part at k size within long ge lt =
+    get_or-append_right (take at xs) (part ++ drop n (drop at xs)) at k 0 (length-take-le at xs (omega arith)) ge
+    ∙ get_or_append_left part (drop n (drop at xs)) 0 (k - at) (omega arith)
 
-pub over_part-above : (blocks part : List ℕ) (at k : ℕ) → length blocks ≡ 128 → at + 32 ≤ 128 → length part ≡ 32 → at + 32 ≤ k
-    → slice_index (over_part blocks part at) k ≡ slice_index blocks k
-over_part-above blocks part at k size within long ge =
-    let place : at + (32 + (k - at - 32)) ≡ k = omega arith in
-    get_or-append_right (take at blocks) (part ++ drop 32 (drop at blocks)) at k 0 (length-take-le at blocks (omega arith)) (omega arith)
-    ∙ get_or-append_right part (drop 32 (drop at blocks)) 32 (k - at) 0 long (omega arith)
-    ∙ get_or-drop 32 (drop at blocks) (k - at - 32) 0 ∙ get_or-drop at blocks (32 + (k - at - 32)) 0 ∙ ap (slice_index blocks) place
+pub over_part-above : (n total : ℕ) (xs part : List ℕ) (at k : ℕ) → length xs ≡ total → at + n ≤ total → length part ≡ n → at + n ≤ k
+    → slice_index (over_part n xs part at) k ≡ slice_index xs k
+over_part-above n total xs part at k size within long ge =
+    let place : at + (n + (k - at - n)) ≡ k = omega arith in
+    get_or-append_right (take at xs) (part ++ drop n (drop at xs)) at k 0 (length-take-le at xs (omega arith)) (omega arith)
+    ∙ get_or-append_right part (drop n (drop at xs)) n (k - at) 0 long (omega arith)
+    ∙ get_or-drop n (drop at xs) (k - at - n) 0 ∙ get_or-drop at xs (n + (k - at - n)) 0 ∙ ap (slice_index xs) place
 
 -- 32 bytes read from a part
 pub length-part_read : (now : List ℕ) (at k : ℕ) → k ≡ 32 → at + 32 ≤ length now → length (chunk 0 32 (take k (drop at now))) ≡ 32

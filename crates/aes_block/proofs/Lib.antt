@@ -6,3 +6,4 @@ pub mod LaneLaws
 pub mod TowerLaws
 pub mod TableLaws
 mod Examples
+pub mod TurnLaws

@@ -1,11 +1,11 @@
 -- The S-box in the tower's basis, and a round's bytes.
-use Rattle.std.proofs.Common.{◌≡◌, ℕ, zero, suc, ◌+◌, ◌*◌, ◌/◌, ◌%◌, ◌<◌, Bool, true, false, List, [], ◌∷◌, slice_index, bit_and, bit_xor, refl, sym, ap, ◌∙◌, arith}
+use Rattle.std.proofs.Common.{◌≡◌, ℕ, zero, suc, ◌+◌, ◌*◌, ◌/◌, ◌%◌, ◌<◌, Bool, true, false, List, [], ◌∷◌, slice_index, bit_xor, refl, sym, ap, ◌∙◌, arith}
 use Rattle.std.specs.Int.Bits.{xor_assoc, xor_comm, xor_self, xor_zero_r}
 use Rattle.aes_block.specs.Field.{◌⊕◌, ◌•◌, sum_of_multiples, xtimes}
 use Rattle.aes_block.specs.Cipher.{add_round_key, affine, at, byte_of_word, mix_columns, sbox, shift_rows, state_of, sub_bytes}
 use Rattle.aes_block.specs.Lanes.{at_places, first_place, first_sum, halves_sum, is_place, looked, second_place, second_sum, sum_by_bits, tower}
 use Rattle.aes_block.specs.declared.field.TheConstants.{SBOX}
-use Rattle.aes_block.specs.declared.lanes.TheConstants.{TOWER_OF_LOW, TOWER_OF_HIGH, SBOX_FIRST, SBOX_SECOND, ONCE_FIRST, ONCE_SECOND, TWICE_FIRST, TWICE_SECOND, OWN_ROW, NEXT_ROW, SECOND_ROW, THIRD_ROW}
+use Rattle.aes_block.specs.declared.lanes.TheConstants.{TOWER_OF_LOW, TOWER_OF_HIGH, SBOX_FIRST, SBOX_SECOND, ONCE_FIRST, ONCE_SECOND, TWICE_FIRST, TWICE_SECOND}
 use Rattle.aes_block.proofs.Checked.{agree_below, same_from_checked}
 use Rattle.aes_block.proofs.FieldLaws.{KeepsSums, from_square, from_three_powers, from_two_powers, inverse-short, product-sum_right, product-three, product-two, square, sum-half, sum-mod_two, sum-mul, sum_swap}
 
@@ -61,10 +61,6 @@ tower-sum a b = sum_by_bits-sum _ a b
 pub tower_by_halves : (b : ℕ) → b < 256 → bit_xor (looked TOWER_OF_LOW (b % 16)) (looked TOWER_OF_HIGH (b / 16)) ≡ tower b
 unfolding agree_below tower sum_by_bits
 tower_by_halves = same_from_checked (λ b. bit_xor (looked TOWER_OF_LOW (b % 16)) (looked TOWER_OF_HIGH (b / 16))) tower 256 refl
-
-pub tower_by_tables : (b : ℕ) → b < 256 → bit_xor (slice_index TOWER_OF_LOW (bit_and b 15)) (slice_index TOWER_OF_HIGH (b / 16)) ≡ tower b
-unfolding agree_below tower sum_by_bits
-tower_by_tables = same_from_checked (λ b. bit_xor (slice_index TOWER_OF_LOW (bit_and b 15)) (slice_index TOWER_OF_HIGH (b / 16))) tower 256 refl
 
 -- ---- the S-box
 
@@ -136,6 +132,14 @@ mixed_in_tower a b d e =
     ap (λ (x : ℕ). x ⊕ (tower (2 • (a ⊕ 0x63)) ⊕ (tower (b ⊕ 0x63) ⊕ tower (2 • (b ⊕ 0x63))))) far
     ∙ ap (λ (x : ℕ). tower (d ⊕ e) ⊕ x) near ∙ sym (tower-sum (d ⊕ e) (m ⊕ 0x63)) ∙ ap tower turned
 
+-- the same in the order in which a round adds
+pub round_sum : (a b bb d e w : ℕ) → ((a ⊕ b) ⊕ e) ⊕ ((bb ⊕ d) ⊕ w) ≡ ((d ⊕ e) ⊕ (a ⊕ (b ⊕ bb))) ⊕ w
+round_sum a b bb d e w =
+    sym (xor_assoc ((a ⊕ b) ⊕ e) (bb ⊕ d) w)
+    ∙ ap (λ (x : ℕ). x ⊕ w)
+    (sum_swap (a ⊕ b) e bb d ∙ ap (λ (x : ℕ). ((a ⊕ b) ⊕ bb) ⊕ x) (xor_comm e d) ∙ xor_comm ((a ⊕ b) ⊕ bb) (d ⊕ e)
+    ∙ ap (λ (x : ℕ). (d ⊕ e) ⊕ x) (xor_assoc a b bb))
+
 -- ---- the bytes of a state
 
 -- what holds at each of so many places holds below that number
@@ -170,20 +174,27 @@ at_each_of_16 P a0 a1 a2 a3 a4 a5 a6 a7 a8 a9 a10 a11 a12 a13 a14 a15 (suc (suc 
 pub state-place : (f : ℕ → ℕ → ℕ) (p : ℕ) → p < 16 → slice_index (state_of f) p ≡ f (p % 4) (p / 4)
 state-place f = at_each_of_16 (λ p. slice_index (state_of f) p ≡ f (p % 4) (p / 4)) refl refl refl refl refl refl refl refl refl refl refl refl refl refl refl refl
 
-pub shifted-place : (s : List ℕ) (p : ℕ) → p < 16 → slice_index (shift_rows (sub_bytes s)) p ≡ sbox (slice_index s (slice_index OWN_ROW p))
-unfolding shift_rows sub_bytes
+-- the place that a shifted row's byte comes from, and the place k rows below in the same column
+unfoldable pub own : ℕ → ℕ
+own p = (p + 4 * (p % 4)) % 16
+
+unfoldable pub below : ℕ → ℕ → ℕ
+below k p = 4 * (p / 4) + (p + k) % 4
+
+pub shifted-place : (s : List ℕ) (p : ℕ) → p < 16 → slice_index (shift_rows (sub_bytes s)) p ≡ sbox (slice_index s (own p))
+unfolding shift_rows sub_bytes own
 shifted-place s =
-    at_each_of_16 (λ p. slice_index (shift_rows (sub_bytes s)) p ≡ sbox (slice_index s (slice_index OWN_ROW p)))
+    at_each_of_16 (λ p. slice_index (shift_rows (sub_bytes s)) p ≡ sbox (slice_index s (own p)))
     refl refl refl refl refl refl refl refl refl refl refl refl refl refl refl refl
 
 pub mixed-place : (s : List ℕ) (p : ℕ) → p < 16 → slice_index (mix_columns (shift_rows (sub_bytes s))) p ≡
-    2 • sbox (slice_index s (slice_index OWN_ROW p)) ⊕ 3 • sbox (slice_index s (slice_index NEXT_ROW p))
-    ⊕ sbox (slice_index s (slice_index SECOND_ROW p)) ⊕ sbox (slice_index s (slice_index THIRD_ROW p))
-unfolding mix_columns shift_rows sub_bytes
+    2 • sbox (slice_index s (own p)) ⊕ 3 • sbox (slice_index s (own (below 1 p)))
+    ⊕ sbox (slice_index s (own (below 2 p))) ⊕ sbox (slice_index s (own (below 3 p)))
+unfolding mix_columns shift_rows sub_bytes own below
 mixed-place s =
     at_each_of_16 (λ p. slice_index (mix_columns (shift_rows (sub_bytes s))) p ≡
-    2 • sbox (slice_index s (slice_index OWN_ROW p)) ⊕ 3 • sbox (slice_index s (slice_index NEXT_ROW p))
-    ⊕ sbox (slice_index s (slice_index SECOND_ROW p)) ⊕ sbox (slice_index s (slice_index THIRD_ROW p)))
+    2 • sbox (slice_index s (own p)) ⊕ 3 • sbox (slice_index s (own (below 1 p)))
+    ⊕ sbox (slice_index s (own (below 2 p))) ⊕ sbox (slice_index s (own (below 3 p))))
     refl refl refl refl refl refl refl refl refl refl refl refl refl refl refl refl
 
 pub added-place : (s w : List ℕ) (n p : ℕ) → p < 16 → slice_index (add_round_key s w n) p ≡ slice_index s p ⊕ slice_index w (16 * n + p)
@@ -192,18 +203,3 @@ added-place s w n p h =
     let place : p % 4 + 4 * (p / 4) ≡ p = omega arith in
     let word_place : 4 * (4 * n + p / 4) + p % 4 ≡ 16 * n + p = omega arith in
     state-place (λ r c. at s r c ⊕ byte_of_word w (4 * n + c) r) p h ∙ rw (place, word_place) refl
-
--- the rows of a place are places
-row_below_from : (f : ℕ → ℕ) → agree_below (λ p. f p / 16) (λ _. 0) 16 ≡ true → (p : ℕ) → p < 16 → f p < 16
-row_below_from f checked p h =
-    let none = same_from_checked (λ p. f p / 16) (λ _. 0) 16 checked p h in
-    omega arith
-
-pub rows-below : (p : ℕ) → p < 16 → (slice_index OWN_ROW p < 16) × (slice_index NEXT_ROW p < 16) × (slice_index SECOND_ROW p < 16) × (slice_index THIRD_ROW p < 16)
-unfolding agree_below
-rows-below p h = (
-  row_below_from (slice_index OWN_ROW) refl p h,
-  row_below_from (slice_index NEXT_ROW) refl p h,
-  row_below_from (slice_index SECOND_ROW) refl p h,
-  row_below_from (slice_index THIRD_ROW) refl p h,
-)

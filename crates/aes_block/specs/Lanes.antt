@@ -26,10 +26,18 @@ sum_by_bits (x ∷ xs) b = bit_xor (b % 2 * x) (sum_by_bits xs (b / 2))
 unfoldable pub tower : ℕ → ℕ
 tower b = sum_by_bits (112 ∷ 42 ∷ 152 ∷ 8 ∷ 77 ∷ 124 ∷ 125 ∷ 129 ∷ []) b
 
--- w are the bytes of a key schedule, and t the same with the affine map's constant added, in the tower's basis
+-- the place in the state after a round that lane q of a block stands for: a row's bytes aren't moved
+-- when the rows shift, so that each round its lanes stand for places as many columns further to the
+-- left as the row's number says
+unfoldable pub place : ℕ → ℕ → ℕ
+place round q = (q + 12 * (round % 4) * (q % 4)) % 16
+
+-- w are the bytes of a key schedule, and t the same with the affine map's constant added, in the
+-- tower's basis, where each round's lanes have them
 pub record AreTowers (w t : List ℕ) : Type 0 where
   pub bytes : (k : ℕ) → slice_index w k < 256
-  pub each : (k : ℕ) → k < 240 → slice_index t k ≡ tower (slice_index w k ⊕ 0x63)
+  pub each : (k : ℕ) → k < 240
+      → slice_index t k ≡ tower (slice_index w (16 * (k / 16) + place (k / 16) (k % 16)) ⊕ 0x63)
 
 -- the inverses in GF(2^4); that of 0 is no place
 abbrev pub inverses : List ℕ

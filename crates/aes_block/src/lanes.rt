@@ -5,7 +5,7 @@
 ghost use Rattle.std.specs.Prelude.{◌≡◌, ◌≤◌, ◌<◌, ◌+◌, ◌-◌, ◌*◌, ◌/◌, ◌%◌, ℕ, List, slice_index, bit_xor, true};
 ghost use Rattle.aes_block.specs.Field.{◌⊕◌};
 ghost use Rattle.aes_block.specs.Cipher.{IsKeySize, mix_columns, shift_rows, state_after, sub_bytes};
-ghost use Rattle.aes_block.specs.Lanes.{AreTowers, HasLanes, at_places, first_place, first_sum, halves_sum, is_place, looked, second_place, second_sum, tower};
+ghost use Rattle.aes_block.specs.Lanes.{AreTowers, HasLanes, at_places, first_place, first_sum, halves_sum, is_place, looked, place, second_place, second_sum, tower};
 
 use crate::SCHEDULE_LEN;
 use std::simd::prelude::*;
@@ -51,17 +51,36 @@ const TWICE_SECOND: [u8; 16] = [
     0, 41, 225, 10, 64, 136, 235, 105, 74, 35, 130, 171, 200, 99, 161, 194,
 ];
 
-// Where the shifted rows have the byte of a place's own row, and of the three rows below it.
-const OWN_ROW: [u8; 16] = [0, 5, 10, 15, 4, 9, 14, 3, 8, 13, 2, 7, 12, 1, 6, 11];
+// Rows aren't shifted in a vector: round by round its bytes stay, and stand for other places of the
+// state. The tables have a row for the rounds of each remainder by 4: which place a lane stands for,
+// which lane the next row's and the third next row's byte of its column is in, and which lane has
+// the byte that the shifted rows have at a place.
+const PLACES: [u8; 64] = [
+    0, 1, 2, 3, 4, 5, 6, 7, 8, 9, 10, 11, 12, 13, 14, 15, 0, 13, 10, 7, 4, 1, 14, 11, 8, 5, 2, 15,
+    12, 9, 6, 3, 0, 9, 2, 11, 4, 13, 6, 15, 8, 1, 10, 3, 12, 5, 14, 7, 0, 5, 10, 15, 4, 9, 14, 3,
+    8, 13, 2, 7, 12, 1, 6, 11,
+];
 
-const NEXT_ROW: [u8; 16] = [5, 10, 15, 0, 9, 14, 3, 4, 13, 2, 7, 8, 1, 6, 11, 12];
+const FORWARD: [u8; 64] = [
+    1, 2, 3, 0, 5, 6, 7, 4, 9, 10, 11, 8, 13, 14, 15, 12, 5, 6, 7, 4, 9, 10, 11, 8, 13, 14, 15, 12,
+    1, 2, 3, 0, 9, 10, 11, 8, 13, 14, 15, 12, 1, 2, 3, 0, 5, 6, 7, 4, 13, 14, 15, 12, 1, 2, 3, 0,
+    5, 6, 7, 4, 9, 10, 11, 8,
+];
 
-const SECOND_ROW: [u8; 16] = [10, 15, 0, 5, 14, 3, 4, 9, 2, 7, 8, 13, 6, 11, 12, 1];
+const BACKWARD: [u8; 64] = [
+    3, 0, 1, 2, 7, 4, 5, 6, 11, 8, 9, 10, 15, 12, 13, 14, 15, 12, 13, 14, 3, 0, 1, 2, 7, 4, 5, 6,
+    11, 8, 9, 10, 11, 8, 9, 10, 15, 12, 13, 14, 3, 0, 1, 2, 7, 4, 5, 6, 7, 4, 5, 6, 11, 8, 9, 10,
+    15, 12, 13, 14, 3, 0, 1, 2,
+];
 
-const THIRD_ROW: [u8; 16] = [15, 0, 5, 10, 3, 4, 9, 14, 7, 8, 13, 2, 11, 12, 1, 6];
+const HOME: [u8; 64] = [
+    0, 1, 2, 3, 4, 5, 6, 7, 8, 9, 10, 11, 12, 13, 14, 15, 0, 5, 10, 15, 4, 9, 14, 3, 8, 13, 2, 7,
+    12, 1, 6, 11, 0, 9, 2, 11, 4, 13, 6, 15, 8, 1, 10, 3, 12, 5, 14, 7, 0, 13, 10, 7, 4, 1, 14, 11,
+    8, 5, 2, 15, 12, 9, 6, 3,
+];
 
 // The affine map's constant.
-pub(crate) const CONSTANT: u8 = 0x63;
+const CONSTANT: u8 = 0x63;
 
 #[inline(always)]
 pub(crate) fn side_by_side(block: &[u8; 16]) -> u8x32
@@ -114,13 +133,24 @@ fn look_up(table: &[u8; 16], places: u8x32) -> u8x32
     side_by_side(table).swizzle_dyn_within::<16>(places)
 }
 
-// The bytes of each block at the places of `rows`.
+// The lanes of the row of a table for a round, for each of the two blocks.
 #[inline(always)]
-fn moved(v: u8x32, rows: &[u8; 16]) -> u8x32
-    requires { (i : ℕ) → i < 16 → slice_index rows.now i < 16 }
-    ensures { HasLanes result (λ i. slice_index v (16 * (i / 16) + slice_index rows.now (i % 16))) }
+fn table_row(rows: &[u8; 64], round: usize) -> u8x32
+    ensures { HasLanes result (λ i. slice_index rows.now (16 * (round % 4) + i % 16)) }
 {
-    v.swizzle_dyn_within::<16>(side_by_side(rows))
+    u8x16::from_slice(&rows[16 * (round % 4)..]).swizzle([
+        0, 1, 2, 3, 4, 5, 6, 7, 8, 9, 10, 11, 12, 13, 14, 15, 0, 1, 2, 3, 4, 5, 6, 7, 8, 9, 10, 11,
+        12, 13, 14, 15,
+    ])
+}
+
+// The bytes of each block at the lanes that the row of a table for a round says.
+#[inline(always)]
+fn moved(v: u8x32, rows: &[u8; 64], round: usize) -> u8x32
+    requires { (i : ℕ) → i < 16 → slice_index rows.now (16 * (round % 4) + i) < 16 }
+    ensures { HasLanes result (λ i. slice_index v (16 * (i / 16) + slice_index rows.now (16 * (round % 4) + i % 16))) }
+{
+    v.swizzle_dyn_within::<16>(table_row(rows, round))
 }
 
 #[inline(always)]
@@ -174,13 +204,6 @@ fn by_places(first: &[u8; 16], second: &[u8; 16], v: u8x32) -> u8x32
     )
 }
 
-// A byte in the tower's basis.
-pub(crate) fn tower(b: u8) -> u8
-    ensures { result ≡ tower b }
-{
-    TOWER_OF_LOW[(b & 15) as usize] ^ TOWER_OF_HIGH[(b >> 4) as usize]
-}
-
 // Each byte in the tower's basis.
 #[inline(always)]
 pub(crate) fn towers(v: u8x32) -> u8x32
@@ -192,25 +215,38 @@ pub(crate) fn towers(v: u8x32) -> u8x32
     )
 }
 
-// A round with mixed columns, in the tower's basis, whose words have the affine map's constant added.
+// The words of a round as its lanes hold them: in the tower's basis, with the affine map's constant
+// added, and where the round's state has them.
+pub(crate) fn tower_round(words: &[u8; SCHEDULE_LEN], round: usize) -> [u8; 16]
+    requires { round ≤ 14 }
+    ensures { (q : ℕ) → q < 16
+        → slice_index result q ≡ tower (slice_index words.now (16 * round + place round q) ⊕ 0x63) }
+{
+    let placed = moved(round_words(words, round), &PLACES, round);
+    let both = towers(sum(placed, u8x32::splat(CONSTANT))).to_array();
+    let mut own = [0; 16];
+    own.copy_from_slice(&both[..16]);
+    own
+}
+
+// Round `number` with mixed columns, in the tower's basis, by words that have the affine map's constant
+// added.
 #[inline(always)]
-pub(crate) fn round(v: u8x32, words: u8x32) -> u8x32
+fn round(v: u8x32, words: u8x32, number: usize) -> u8x32
+    requires { 1 ≤ number }
     ensures { (s : ℕ → List ℕ) → ((b k : ℕ) → slice_index (s b) k < 256)
-        → HasLanes v (λ i. tower (slice_index (s (i / 16)) (i % 16)))
-        → HasLanes result (λ i. tower (slice_index (mix_columns (shift_rows (sub_bytes (s (i / 16))))) (i % 16)
-        ⊕ 0x63) ⊕ slice_index words i) }
+        → HasLanes v (λ i. tower (slice_index (s (i / 16)) (place (number - 1) (i % 16))))
+        → HasLanes result (λ i. tower (slice_index (mix_columns (shift_rows (sub_bytes (s (i / 16)))))
+        (place number (i % 16)) ⊕ 0x63) ⊕ slice_index words i) }
 {
     let once = by_places(&ONCE_FIRST, &ONCE_SECOND, v);
     let twice = by_places(&TWICE_FIRST, &TWICE_SECOND, v);
-    let both = sum(once, twice);
-    let own = moved(twice, &OWN_ROW);
-    let next = moved(both, &NEXT_ROW);
-    let second = moved(once, &SECOND_ROW);
-    let third = moved(once, &THIRD_ROW);
-    let far = sum(second, third);
-    let near = sum(own, next);
-    let mixed = sum(far, near);
-    sum(mixed, words)
+    let next = moved(once, &FORWARD, number);
+    let near = sum(twice, next);
+    let last = moved(once, &BACKWARD, number);
+    let three = sum(near, last);
+    let turned = moved(near, &FORWARD, number);
+    sum(three, sum(turned, words))
 }
 
 // Round `number` of the rounds that are alike, by the words of a key schedule in the tower's basis
@@ -220,10 +256,10 @@ pub(crate) fn keyed_round(v: u8x32, tower_words: &[u8; SCHEDULE_LEN], number: us
     requires from { 1 ≤ number }
     requires within { number ≤ 14 }
     ensures { (w : List ℕ) (s : ℕ → List ℕ) → AreTowers w tower_words.now → ((b k : ℕ) → slice_index (s b) k < 256)
-        → HasLanes v (λ i. tower (slice_index (state_after w (s (i / 16)) (number - 1)) (i % 16)))
-        → HasLanes result (λ i. tower (slice_index (state_after w (s (i / 16)) number) (i % 16))) }
+        → HasLanes v (λ i. tower (slice_index (state_after w (s (i / 16)) (number - 1)) (place (number - 1) (i % 16))))
+        → HasLanes result (λ i. tower (slice_index (state_after w (s (i / 16)) number) (place number (i % 16)))) }
 {
-    round(v, round_words(tower_words, number))
+    round(v, round_words(tower_words, number), number)
 }
 
 // Each round by its number, so that none is counted when the cipher runs.
@@ -239,8 +275,8 @@ macro_rules! each_round {
 pub(crate) fn keyed_rounds<const NK: usize>(v: u8x32, tower_words: &[u8; SCHEDULE_LEN]) -> u8x32
     requires { IsKeySize NK }
     ensures { (w : List ℕ) (s : ℕ → List ℕ) → AreTowers w tower_words.now → ((b k : ℕ) → slice_index (s b) k < 256)
-        → HasLanes v (λ i. tower (slice_index (state_after w (s (i / 16)) 0) (i % 16)))
-        → HasLanes result (λ i. tower (slice_index (state_after w (s (i / 16)) (NK + 5)) (i % 16))) }
+        → HasLanes v (λ i. tower (slice_index (state_after w (s (i / 16)) 0) (place 0 (i % 16))))
+        → HasLanes result (λ i. tower (slice_index (state_after w (s (i / 16)) (NK + 5)) (place (NK + 5) (i % 16)))) }
 {
     match NK {
         4 => each_round!(v, tower_words; 1 2 3 4 5 6 7 8 9),
@@ -249,16 +285,17 @@ pub(crate) fn keyed_rounds<const NK: usize>(v: u8x32, tower_words: &[u8; SCHEDUL
     }
 }
 
-// The round without mixed columns, from the tower's basis.
+// The round without mixed columns, which is round `number`, from the tower's basis.
 #[inline(always)]
-pub(crate) fn last_round(v: u8x32, words: u8x32) -> u8x32
+pub(crate) fn last_round(v: u8x32, words: u8x32, number: usize) -> u8x32
+    requires { 1 ≤ number }
     ensures { (s : ℕ → List ℕ) → ((b k : ℕ) → slice_index (s b) k < 256)
-        → HasLanes v (λ i. tower (slice_index (s (i / 16)) (i % 16)))
+        → HasLanes v (λ i. tower (slice_index (s (i / 16)) (place (number - 1) (i % 16))))
         → HasLanes result (λ i. slice_index (shift_rows (sub_bytes (s (i / 16)))) (i % 16)
         ⊕ slice_index words i) }
 {
     let looked_up = by_places(&SBOX_FIRST, &SBOX_SECOND, v);
     let substituted = sum(looked_up, u8x32::splat(CONSTANT));
-    let own = moved(substituted, &OWN_ROW);
+    let own = moved(substituted, &HOME, number);
     sum(own, words)
 }

@@ -4,12 +4,10 @@
 ghost use Rattle.std.specs.Prelude.{◌≡◌, ℕ, ◌<◌, ◌+◌, ◌*◌, ◌^◌, ◌/◌, ◌%◌, List, drop, length, slice_index, take};
 ghost use Rattle.aes_block.specs.Field.{◌⊕◌};
 ghost use Rattle.aes_block.specs.Cipher.{IsKeySize, aes};
-ghost use Rattle.aes_block.specs.Lanes.{HasLanes, tower};
+ghost use Rattle.aes_block.specs.Lanes.{HasLanes, place, tower};
 
 use crate::field::xtimes;
-use crate::lanes::{
-    CONSTANT, keyed_rounds, last_round, round_words, side_by_side, sum, tower, towers,
-};
+use crate::lanes::{keyed_rounds, last_round, round_words, side_by_side, sum, tower_round, towers};
 use crate::schedule::{next_word, put_word};
 use crate::state::{add_round_key, mix_columns, shift_rows, sub_bytes};
 use crate::tables::{counted_round, counted_sub_bytes};
@@ -36,7 +34,8 @@ const SCHEDULE_LEN: usize = 240;
 pub struct Aes<const NK: usize> {
     // The words of the key schedule, one after the other.
     words: [u8; SCHEDULE_LEN],
-    // The same with the affine map's constant added, in the basis that the rounds work in.
+    // The same with the affine map's constant added, in the basis and the order that the rounds
+    // work in.
     tower_words: [u8; SCHEDULE_LEN],
 }
 
@@ -65,10 +64,10 @@ macro_rules! with_aes {
 }
 
 impl<const NK: usize> Model for Aes<NK> {
-    ghost use Rattle.std.specs.Prelude.{◌≡◌, ℕ, ◌+◌, ◌*◌, ◌<◌, List, slice_index, take};
+    ghost use Rattle.std.specs.Prelude.{◌≡◌, ℕ, ◌+◌, ◌*◌, ◌/◌, ◌%◌, ◌<◌, List, slice_index, take};
     ghost use Rattle.aes_block.specs.Field.{◌⊕◌};
     ghost use Rattle.aes_block.specs.Cipher.{IsKeySize, key_expansion, round_count};
-    ghost use Rattle.aes_block.specs.Lanes.{tower};
+    ghost use Rattle.aes_block.specs.Lanes.{place, tower};
 
     ghost Value = { List ℕ };
 
@@ -76,18 +75,21 @@ impl<const NK: usize> Model for Aes<NK> {
 
     ghost invariant = { λ a. IsKeySize NK
         × (take (16 * (round_count NK + 1)) a.words ≡ key_expansion (take (4 * NK) a.words))
-        × ((k : ℕ) → k < 240 → slice_index a.tower_words k ≡ tower (slice_index a.words k ⊕ 0x63))
+        × ((k : ℕ) → k < 240
+        → slice_index a.tower_words k ≡ tower (slice_index a.words (16 * (k / 16) + place (k / 16) (k % 16)) ⊕ 0x63))
         × ((k : ℕ) → slice_index a.words k < 256) };
 }
 
-// The words in the tower's basis, with the affine map's constant added.
+// The words as the rounds take them.
 fn tower_words(words: &[u8; SCHEDULE_LEN]) -> [u8; SCHEDULE_LEN]
-    ensures made { (k : ℕ) → k < 240 → slice_index result k ≡ tower (slice_index words.now k ⊕ 0x63) }
+    ensures made { (k : ℕ) → k < 240
+        → slice_index result k ≡ tower (slice_index words.now (16 * (k / 16) + place (k / 16) (k % 16)) ⊕ 0x63) }
     ensures bytes { (k : ℕ) → slice_index words.now k < 256 }
 {
     let mut tower_words = [0; SCHEDULE_LEN];
-    'bytes: for i in 0..SCHEDULE_LEN {
-        tower_words[i] = tower(words[i] ^ CONSTANT);
+    'rounds: for round in 0..15 {
+        let at = 16 * round;
+        tower_words[at..at + 16].copy_from_slice(&tower_round(words, round));
     }
     tower_words
 }
@@ -146,7 +148,8 @@ impl<const NK: usize> Aes<NK> {
     {
         let start = towers(sum(pair, round_words(&self.words, 0)));
         let before_last = keyed_rounds::<NK>(start, &self.tower_words);
-        last_round(before_last, round_words(&self.words, NK + EXTRA_ROUNDS))
+        let rounds = NK + EXTRA_ROUNDS;
+        last_round(before_last, round_words(&self.words, rounds), rounds)
     }
 
     /// Does the same as `encrypt_block` by tables, and adds the number of its look-ups to `looks`:

@@ -1,6 +1,6 @@
 -- How GCTR goes over a string block by block.
 use Rattle.std.proofs.Common.{◌≡◌, ℕ, zero, suc, ◌+◌, ◌-◌, ◌*◌, ◌%◌, ◌^◌, ◌<◌, ◌≤◌, min, get_or, List, [], ◌∷◌, ◌++◌, length, take, drop, refl, sym, ap, ◌∙◌, inl, inr, arith, add-one, length-append, length-drop, length-take}
-use Rattle.std.proofs.lemmas.List.{drop_more, take_at, drop_at, drop-drop, drop_all, append-nil, append_assoc}
+use Rattle.std.proofs.lemmas.List.{drop_more, take_all, take_at, drop_at, drop-drop, drop_all, append-nil, append_assoc}
 use Rattle.std.proofs.lemmas.Bool.{cases_lt}
 use Rattle.std.specs.Int.{w32, div_ceil, from_be_bytes, to_be_bytes}
 use Rattle.aes_block.specs.Cipher.{aes}
@@ -148,3 +148,10 @@ gctr_all key icb x text i last e =
     let n = div_ceil (length x) 16 in
     let over : 8 * i ≡ n + (8 * i - n) = omega arith in
     e ∙ rw (none, append-nil) (ap (gctr_blocks key icb x) over ∙ gctr_blocks-past key icb x n (8 * i - n) (omega arith))
+
+-- of one block
+pub gctr_one : (key icb x : List ℕ) → length x ≡ 16 → gctr key icb x ≡ xor_bytes x (aes key icb)
+unfolding gctr gctr_blocks counter_block
+gctr_one key icb x size =
+    let one : div_ceil (length x) 16 ≡ 1 = rw size refl in
+    rw one (ap (λ (b : List ℕ). xor_bytes b (aes key icb)) (take_all 16 x (omega arith)))

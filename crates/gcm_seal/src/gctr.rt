@@ -7,7 +7,7 @@ ghost use Rattle.byte_blocks.specs.Blocks.{block_at};
 
 use super::BLOCK_LEN;
 use aes_block::Aes;
-use byte_blocks::xor_block;
+use byte_blocks::{xor_block, xor_into};
 
 // The blocks of key stream that are made in one call, and their bytes.
 const GROUP_BLOCKS: usize = 8;
@@ -23,6 +23,15 @@ pub fn apply<const NK: usize>(cipher: &Aes<NK>, initial: [u8; 16], text: &mut [u
         let stream = key_stream(cipher, &mut counter);
         xor_block(text, i, &stream);
     }
+}
+
+// GCTR (Algorithm 3) of one block, in place.
+pub fn apply_block<const NK: usize>(cipher: &Aes<NK>, initial: [u8; 16], block: &mut [u8; 16])
+    ensures { block.new ≡ gctr cipher.now initial block.old }
+{
+    let mut stream = initial;
+    cipher.encrypt_block(&mut stream);
+    xor_into(block, &stream);
 }
 
 // The key stream of eight blocks from a counter block on, which counts up past them.

@@ -111,7 +111,7 @@ fn tag_of<const NK: usize>(cipher: &Aes<NK>, iv: &[u8; 12], aad: &[u8], sealed: 
     let mut hash_subkey = [0; 16];
     cipher.encrypt_block(&mut hash_subkey);
     let mut tag = ghash::hash(hash_subkey, aad, sealed);
-    gctr::apply(cipher, pre_counter_block(iv), &mut tag);
+    gctr::apply_block(cipher, pre_counter_block(iv), &mut tag);
     tag
 }
 

@@ -32,100 +32,81 @@ fn times_x(v: u128) -> u128
     if v & 1 == 0 { v >> 1 } else { (v >> 1) ^ R }
 }
 
-// A power of x times a block.
-fn times_power(v: u128, k: u32) -> u128
-    ensures { result ≡ v_at v k }
+// Fills the table with the multiples of h by each half byte at each place in a block. Those of a
+// place stand one after the other, the first place's first.
+pub fn put_multiples(table: &mut [u128; 512], h: u128)
+    ensures { HasMultiples table.new h }
 {
-    let mut power = v;
-    'powers: for _ in 0..k {
-        power = times_x(power);
-    }
-    power
-}
-
-// The multiples of h by the polynomials of a degree below 8, each at the place that its bits say.
-pub fn multiples(h: u128) -> [u128; 256]
-    ensures { HasMultiples result h }
-{
-    let mut table = [0; 256];
-    for bit in 0..8u32 {
-        double(&mut table, bit, times_power(h, 7 - bit));
-    }
-    table
-}
-
-// Fills the places from 2^bit up to its double with those below it, each with `power` added.
-fn double(table: &mut [u128; 256], bit: u32, power: u128)
-    requires { bit ≤ 7 }
-    ensures kept { (n : ℕ) → n < 2 ^ bit → slice_index table.new n ≡ slice_index table.old n }
-    ensures doubled { (n : ℕ) → n < 2 ^ bit
-        → slice_index table.new (2 ^ bit + n) ≡ bit_xor power (slice_index table.old n) }
-{
-    let width = 1usize << bit;
-    for n in 0..width {
-        table[width + n] = power ^ table[n];
+    let mut power = h;
+    for place in 0..32 {
+        table[16 * place..16 * place + 16].copy_from_slice(&row(power));
+        power = times_x(times_x(times_x(times_x(power))));
     }
 }
 
-// A polynomial of a degree below 256: the coefficients of x^0 to x^127, and those from x^128 on.
-#[derive(Clone, Copy)]
-struct Wide {
-    front: u128,
-    back: u128,
+// The sums of `v` and its multiples by x, x^2 and x^3, at the numbers whose bits say what is added,
+// the highest for `v`.
+#[inline(always)]
+fn row(v: u128) -> [u128; 16]
+    ensures { (h place n : ℕ) → place < 32 → v ≡ v_at h (4 * place) → n < 16
+        → slice_index result n ≡ product (n * 2 ^ (124 - 4 * place)) h }
+{
+    let once = times_x(v);
+    let twice = times_x(once);
+    let thrice = times_x(twice);
+    let high = v ^ once;
+    let low = twice ^ thrice;
+    [
+        0,
+        thrice,
+        twice,
+        low,
+        once,
+        once ^ thrice,
+        once ^ twice,
+        once ^ low,
+        v,
+        v ^ thrice,
+        v ^ twice,
+        v ^ low,
+        high,
+        high ^ thrice,
+        high ^ twice,
+        high ^ low,
+    ]
 }
 
-// The product of x and h, by the multiples of h, one for each byte of x. It is reduced once. The
-// sixteen bytes are written out, so that each shift is by a constant.
-pub fn multiply(x: u128, multiples: &[u128; 256]) -> u128
+// Each place by its number, so that each shift is by a constant.
+macro_rules! each_place {
+    ($sum:expr, $x:expr, $multiples:expr;) => { $sum };
+    ($sum:expr, $x:expr, $multiples:expr; $place:literal $($more:literal)*) => {
+        each_place!(with_multiple($sum, $x, $place, $multiples), $x, $multiples; $($more)*)
+    };
+}
+
+// The product of x and h, by the multiples of h, one for each half byte of x.
+pub fn multiply(x: u128, multiples: &[u128; 512]) -> u128
     ensures { (h : ℕ) → HasMultiples multiples.now h → result ≡ product x h }
 {
-    let sum_1 = first_multiple(x, multiples);
-    let sum_2 = with_multiple(sum_1, x, 1, multiples);
-    let sum_3 = with_multiple(sum_2, x, 2, multiples);
-    let sum_4 = with_multiple(sum_3, x, 3, multiples);
-    let sum_5 = with_multiple(sum_4, x, 4, multiples);
-    let sum_6 = with_multiple(sum_5, x, 5, multiples);
-    let sum_7 = with_multiple(sum_6, x, 6, multiples);
-    let sum_8 = with_multiple(sum_7, x, 7, multiples);
-    let sum_9 = with_multiple(sum_8, x, 8, multiples);
-    let sum_10 = with_multiple(sum_9, x, 9, multiples);
-    let sum_11 = with_multiple(sum_10, x, 10, multiples);
-    let sum_12 = with_multiple(sum_11, x, 11, multiples);
-    let sum_13 = with_multiple(sum_12, x, 12, multiples);
-    let sum_14 = with_multiple(sum_13, x, 13, multiples);
-    let sum_15 = with_multiple(sum_14, x, 14, multiples);
-    let sum_16 = with_multiple(sum_15, x, 15, multiples);
-    sum_16.front ^ reduced(sum_16.back)
+    each_place!(
+        0, x, multiples;
+        0 1 2 3 4 5 6 7 8 9 10 11 12 13 14 15 16 17 18 19 20 21 22 23 24 25 26 27 28 29 30 31
+    )
 }
 
-// The multiple of the first byte of x.
+// The multiples of the half bytes of x before a place, and that of the one at it.
 #[inline(always)]
-fn first_multiple(x: u128, multiples: &[u128; 256]) -> Wide
+fn with_multiple(sum: u128, x: u128, place: u32, multiples: &[u128; 512]) -> u128
+    requires { place < 32 }
     ensures { (h : ℕ) → HasMultiples multiples.now h
-        → wide_value result.front result.back ≡ product (x / 2 ^ 120 * 2 ^ 120) h }
+        → sum ≡ product (x / 2 ^ (128 - 4 * place) * 2 ^ (128 - 4 * place)) h
+        → result ≡ product (x / 2 ^ (124 - 4 * place) * 2 ^ (124 - 4 * place)) h }
 {
-    let front = multiples[(x >> 120) as usize];
-    Wide { front, back: 0 }
-}
-
-// The multiples of the first k bytes of x, and that of byte k.
-#[inline(always)]
-fn with_multiple(sum: Wide, x: u128, k: u32, multiples: &[u128; 256]) -> Wide
-    requires from { 1 ≤ k }
-    requires below { k ≤ 15 }
-    ensures { (h : ℕ) → HasMultiples multiples.now h
-        → wide_value sum.front sum.back ≡ product (x / 2 ^ (128 - 8 * k) * 2 ^ (128 - 8 * k)) h
-        → wide_value result.front result.back ≡ product (x / 2 ^ (120 - 8 * k) * 2 ^ (120 - 8 * k)) h }
-{
-    let multiple = multiples[(x >> (120 - 8 * k) & 0xff) as usize];
-    Wide {
-        front: sum.front ^ (multiple >> (8 * k)),
-        back: sum.back ^ (multiple << (128 - 8 * k)),
-    }
+    let half_byte = x >> (124 - 4 * place) & 0xf;
+    sum ^ multiples[16 * place as usize + half_byte as usize]
 }
 
 // The coefficients from x^128 on, brought below it: x^128 is 1 + x + x^2 + x^7.
-#[inline(always)]
 fn reduced(back: u128) -> u128
     ensures { result ≡ product back r_block }
 {

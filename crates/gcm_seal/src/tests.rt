@@ -93,7 +93,9 @@ fn products_of_blocks(rt: HostRuntime) {
     let x = 0x0388_dace_60b6_a392_f328_c2b9_71b2_fe78;
     let expected = 0x5e2e_c746_9170_6288_2c85_b068_5353_deb7;
     assert_eq!(rt; product::multiply_by_steps(x, h), expected);
-    assert_eq!(rt; product::multiply(x, &product::multiples(h)), expected);
+    let mut multiples = [0; 512];
+    product::put_multiples(&mut multiples, h);
+    assert_eq!(rt; product::multiply(x, &multiples), expected);
     let mut looks = 5;
     assert_eq!(rt; GhashTable::new(h).mul_counted(x, &mut looks), expected);
     assert_eq!(rt; looks, 37);

@@ -4,4 +4,4 @@ use Rattle.gcm_seal.proofs.tag_of.Goals as goal
 
 pub returns : goal.returns
 unfolding gcm_tag hash_subkey
-returns g c = rw (c.apply.ensures, c.pre_counter_block.ensures, c.hash-tag.ensures, c.encrypt_block.ensures) refl
+returns g c = rw (c.apply_block.ensures, c.pre_counter_block.ensures, c.hash-tag.ensures, c.encrypt_block.ensures) refl

@@ -34,18 +34,18 @@ pairs-preserved g c =
           ∙ sym (get_or-take 16 (drop (16 * (2 * pair + i / 16)) old) (i % 16) 0 (omega arith) ∙ get_or-drop (16 * (2 * pair + i / 16)) old (i % 16) 0);
     } in
     rw (size_32, c.copy_from_slice.ensures.after) record {
-      size = length_over_part now encrypted at size within lanes.long;
+      size = length_over_part 32 128 now encrypted at size within lanes.long;
       done = λ k lt.
           elim (cases_lt k at) [
-            | inl below ↦ over_part-below now encrypted at k size within below ∙ c.pairs.invariant.done k below
+            | inl below ↦ over_part-below 32 128 now encrypted at k size within below ∙ c.pairs.invariant.done k below
             | inr ge ↦
                 let block : 2 * pair + (k - at) / 16 ≡ k / 16 = omega arith in
                 let place : (k - at) % 16 ≡ k % 16 = omega arith in
-                over_part-within now encrypted at k size within lanes.long ge (omega arith) ∙ lanes.each (k - at) (omega arith)
+                over_part-within 32 128 now encrypted at k size within lanes.long ge (omega arith) ∙ lanes.each (k - at) (omega arith)
                 ∙ rw (block, place) refl
           ];
       left = λ k ge.
-          over_part-above now encrypted at k size within lanes.long (omega arith) ∙ c.pairs.invariant.left k (omega arith);
+          over_part-above 32 128 now encrypted at k size within lanes.long (omega arith) ∙ c.pairs.invariant.left k (omega arith);
     }
 
 pub returns : goal.returns

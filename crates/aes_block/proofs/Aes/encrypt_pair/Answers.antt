@@ -1,9 +1,10 @@
 use Rattle.std.proofs.Common.{◌≡◌, ℕ, ◌+◌, ◌-◌, ◌/◌, ◌%◌, List, slice_index, sym, ap, ◌∙◌, arith}
 use Rattle.aes_block.specs.Field.{◌⊕◌}
 use Rattle.aes_block.specs.Cipher.{add_round_key, cipher, shift_rows, state_after, sub_bytes}
-use Rattle.aes_block.specs.Lanes.{tower}
+use Rattle.aes_block.specs.Lanes.{place, tower}
 use Rattle.aes_block.proofs.CipherLaws.{cipher_of_schedule, state_after-bytes}
 use Rattle.aes_block.proofs.TowerLaws.{added-place}
+use Rattle.aes_block.proofs.TurnLaws.{place-none}
 use Rattle.aes_block.proofs.Aes.encrypt_pair.Goals as goal
 
 pub returns : goal.returns
@@ -18,9 +19,14 @@ returns g c = λ s bytes lanes.
           c.towers-start.ensures.each i h
           ∙ ap tower
           (c.sum.ensures.each i h ∙ rw (lanes.each i h, c.round_words.ensures.each i h)
-          (sym (added-place (s (i / 16)) w 0 (i % 16) (omega arith))));
+          (sym (added-place (s (i / 16)) w 0 (i % 16) (omega arith)))
+          ∙ ap (slice_index (add_round_key (s (i / 16)) w 0)) (sym (place-none (i % 16) (omega arith))));
     } in
-    let done = c.last_round.ensures t (λ b. state_after-bytes w (s b) (nk + 5) c.self.invariant.3 (bytes b)) before in
+    let before_it : nk + 5 ≡ nk + 6 - 1 = omega arith in
+    let done = c.last_round.ensures t (λ b. state_after-bytes w (s b) (nk + 5) c.self.invariant.3 (bytes b)) record {
+      long = before.long;
+      each = λ i h. before.each i h ∙ ap (λ (r : ℕ). tower (slice_index (t (i / 16)) (place r (i % 16)))) before_it;
+    } in
     record {
       long = done.long;
       each = λ i h.

@@ -1,4 +1,4 @@
-use Rattle.std.proofs.Common.{◌≡◌, ℕ, ◌+◌, ◌-◌, ◌*◌, ◌<◌, List, length, rules, arith, refl, ap, ◌∙◌}
+use Rattle.std.proofs.Common.{◌≡◌, ℕ, ◌+◌, ◌*◌, ◌<◌, List, length, rules, arith, refl, ap, ◌∙◌}
 use Rattle.aes_block.specs.Cipher.{aes}
 use Rattle.gcm_seal.specs.Gcm.{counter_block}
 use Rattle.byte_blocks.specs.Blocks.{block_at}

@@ -1,5 +1,4 @@
-use Rattle.std.proofs.Common.{◌-◌, arith, ◌∙◌}
-use Rattle.byte_blocks.specs.Blocks.{block_at}
+use Rattle.std.proofs.Common.{arith, ◌∙◌}
 use Rattle.gcm_seal.proofs.Hashing.{absorb_none, absorb_more, absorb_all}
 use Rattle.gcm_seal.proofs.ghash.absorb.Goals as goal
 

@@ -1,24 +1,43 @@
-use Rattle.std.proofs.Common.{◌≡◌, ℕ, ◌*◌, ◌/◌, ◌^◌, bit_xor, ap, ◌∙◌, arith}
+use Rattle.std.proofs.Common.{◌≡◌, ℕ, ◌*◌, ◌/◌, ◌^◌, sym, ap, ◌∙◌, arith}
 use Rattle.gcm_seal.specs.Gcm.{product}
+use Rattle.gcm_seal.proofs.ProductLaws.{product-zero}
 use Rattle.gcm_seal.proofs.product.multiply.Goals as goal
 
 pub returns : goal.returns
 returns c = λ h has.
-    let s1 = c.first_multiple-sum_1.ensures h has in
-    let s2 = c.with_multiple-sum_2.ensures h has s1 in
-    let s3 = c.with_multiple-sum_3.ensures h has s2 in
-    let s4 = c.with_multiple-sum_4.ensures h has s3 in
-    let s5 = c.with_multiple-sum_5.ensures h has s4 in
-    let s6 = c.with_multiple-sum_6.ensures h has s5 in
-    let s7 = c.with_multiple-sum_7.ensures h has s6 in
-    let s8 = c.with_multiple-sum_8.ensures h has s7 in
-    let s9 = c.with_multiple-sum_9.ensures h has s8 in
-    let s10 = c.with_multiple-sum_10.ensures h has s9 in
-    let s11 = c.with_multiple-sum_11.ensures h has s10 in
-    let s12 = c.with_multiple-sum_12.ensures h has s11 in
-    let s13 = c.with_multiple-sum_13.ensures h has s12 in
-    let s14 = c.with_multiple-sum_14.ensures h has s13 in
-    let s15 = c.with_multiple-sum_15.ensures h has s14 in
-    let s16 = c.with_multiple-sum_16.ensures h has s15 in
-    let whole : c.args.x / 2 ^ 0 * 2 ^ 0 ≡ c.args.x = omega arith in
-    ap (bit_xor c.with_multiple-sum_16.result.front) c.reduced.ensures ∙ s16 ∙ ap (λ (x : ℕ). product x h) whole
+    let x = c.args.x in
+    let none : x / 2 ^ 128 * 2 ^ 128 ≡ 0 = omega arith in
+    let s1 = c.with_multiple.ensures h has (sym (ap (λ (y : ℕ). product y h) none ∙ product-zero h)) in
+    let s2 = c.with_multiple-2.ensures h has s1 in
+    let s3 = c.with_multiple-3.ensures h has s2 in
+    let s4 = c.with_multiple-4.ensures h has s3 in
+    let s5 = c.with_multiple-5.ensures h has s4 in
+    let s6 = c.with_multiple-6.ensures h has s5 in
+    let s7 = c.with_multiple-7.ensures h has s6 in
+    let s8 = c.with_multiple-8.ensures h has s7 in
+    let s9 = c.with_multiple-9.ensures h has s8 in
+    let s10 = c.with_multiple-10.ensures h has s9 in
+    let s11 = c.with_multiple-11.ensures h has s10 in
+    let s12 = c.with_multiple-12.ensures h has s11 in
+    let s13 = c.with_multiple-13.ensures h has s12 in
+    let s14 = c.with_multiple-14.ensures h has s13 in
+    let s15 = c.with_multiple-15.ensures h has s14 in
+    let s16 = c.with_multiple-16.ensures h has s15 in
+    let s17 = c.with_multiple-17.ensures h has s16 in
+    let s18 = c.with_multiple-18.ensures h has s17 in
+    let s19 = c.with_multiple-19.ensures h has s18 in
+    let s20 = c.with_multiple-20.ensures h has s19 in
+    let s21 = c.with_multiple-21.ensures h has s20 in
+    let s22 = c.with_multiple-22.ensures h has s21 in
+    let s23 = c.with_multiple-23.ensures h has s22 in
+    let s24 = c.with_multiple-24.ensures h has s23 in
+    let s25 = c.with_multiple-25.ensures h has s24 in
+    let s26 = c.with_multiple-26.ensures h has s25 in
+    let s27 = c.with_multiple-27.ensures h has s26 in
+    let s28 = c.with_multiple-28.ensures h has s27 in
+    let s29 = c.with_multiple-29.ensures h has s28 in
+    let s30 = c.with_multiple-30.ensures h has s29 in
+    let s31 = c.with_multiple-31.ensures h has s30 in
+    let s32 = c.with_multiple-32.ensures h has s31 in
+    let whole : x / 2 ^ 0 * 2 ^ 0 ≡ x = omega arith in
+    s32 ∙ ap (λ (y : ℕ). product y h) whole

@@ -1,10 +1,10 @@
-use Rattle.std.proofs.Common.{◌-◌, ◌*◌, ◌/◌, ◌^◌, bit_and, arith}
+use Rattle.std.proofs.Common.{◌-◌, ◌*◌, ◌/◌, ◌^◌, bit_and, bit_xor, ap, ◌∙◌, arith}
 use Rattle.std.proofs.lemmas.Nat.{and_le_r}
-use Rattle.gcm_seal.proofs.MultipleLaws.{multiple_added}
+use Rattle.gcm_seal.proofs.MultipleLaws.{place_added}
 use Rattle.gcm_seal.proofs.product.with_multiple.Goals as goal
 
 pub returns : goal.returns
 returns c = λ h has held.
-    let byte = bit_and (c.args.x / 2 ^ (120 - 8 * c.args.k)) 255 in
-    multiple_added c.args.x h c.args.sum.front c.args.sum.back _ c.args.k c.requires.from c.requires.below
-    (has byte (omega (arith, and_le_r (c.args.x / 2 ^ (120 - 8 * c.args.k)) 255))) held
+    let half_byte = bit_and (c.args.x / 2 ^ (124 - 4 * c.args.place)) 15 in
+    ap (bit_xor c.args.sum) (has c.args.place half_byte c.requires (omega (arith, and_le_r (c.args.x / 2 ^ (124 - 4 * c.args.place)) 15)))
+    ∙ place_added c.args.x h c.args.sum c.args.place c.requires held
