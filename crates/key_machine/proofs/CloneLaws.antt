@@ -1,5 +1,5 @@
 -- A clone keeps a sound state sound; its owner and its family are those of its origin.
-use Rattle.std.proofs.Common.{◌≡◌, ◌≢◌, inl, inr, ℕ, ◌+◌, ◌<◌, ◌≤◌, Bool, true, false, List, [], ◌∷◌, ◌++◌, Option, Some, None, IfSome, is_some, is_none, refl, ap, sym, ◌∙◌, subst, arith}
+use Rattle.std.proofs.Common.{◌≡◌, ◌≢◌, inr, ℕ, ◌+◌, ◌<◌, ◌≤◌, Bool, true, false, List, Option, Some, None, IfSome, is_some, is_none, refl, ap, ◌∙◌, subst, arith}
 use Rattle.std.specs.Prelude.{unwrap_or}
 use Rattle.dataset_tree.specs.declared.kinds.Kind.TheVariants.{Crypt}
 use Rattle.dataset_tree.specs.declared.tree.Row.{Row}
@@ -7,7 +7,6 @@ use Rattle.dataset_tree.specs.SetName.{parent_name}
 use Rattle.dataset_tree.specs.Tree.{IsTree, row_of, row_named, parent_in}
 use Rattle.dataset_tree.proofs.TreeLemmas.{IsTree-with_row}
 use Rattle.encryption_roots.specs.declared.command.KeyCmd.TheVariants as commands
-use Rattle.encryption_roots.specs.declared.props.Props.{Props}
 use Rattle.encryption_roots.specs.ById.{at_id}
 use Rattle.encryption_roots.specs.Owners.{family}
 use Rattle.encryption_roots.proofs.OwnerLemmas.{falls_in_tree, found_below, owner_of_other, next_of_clone}
@@ -15,13 +14,13 @@ use Rattle.key_machine.specs.Clone.{clone_cases, cloned, clone_done}
 use Rattle.key_machine.specs.Plain.{Plain, Stored, Ciphers, owner_of, is_root}
 use Rattle.key_machine.specs.Sound.{Sound, SoundTree, IsEncrypted, OpensAt}
 use Rattle.key_machine.specs.Step.{refusal_of, target}
-use Rattle.key_machine.proofs.CreateLawsGrown.{grown, Grows, slots_kept, users_kept, grown_tree, new_found, encrypted_apart, family_apart, owner_stays, origin_apart, clone_family}
+use Rattle.key_machine.proofs.CreateLawsGrown.{Grows, slots_kept, users_kept, grown_tree, new_found, encrypted_apart, family_apart, owner_stays, origin_apart, clone_family}
 use Rattle.key_machine.proofs.CreateLawsKeys.{keys_kept}
 use Rattle.key_machine.proofs.CreateLawsMappings.{mappings_kept}
 use Rattle.key_machine.proofs.CreateLawsRows.{row_is_given}
 use Rattle.key_machine.proofs.CreateLawsStep.{NoneHolds, none_holds}
 use Rattle.key_machine.proofs.CreateLawsTree.{IsSoundlyNew, tree_kept}
-use Rattle.key_machine.proofs.NamedLaws.{IsNamed, named, row_of_named, encrypted_named}
+use Rattle.key_machine.proofs.NamedLaws.{named, encrypted_named}
 use Rattle.std.proofs.lemmas.List.Elements.{recursion_from_All}
 
 -- ---- what the state doesn't refuse

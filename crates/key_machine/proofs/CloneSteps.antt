@@ -1,6 +1,5 @@
 -- What a clone answers, and what it leaves of others.
-use Rattle.std.proofs.Common.{◌≡◌, ◌≢◌, ℕ, ◌+◌, true, List, Option, Some, None, refl, ap, sym, ◌∙◌, subst}
-use Rattle.std.specs.Option.{option_and_then}
+use Rattle.std.proofs.Common.{◌≡◌, ◌≢◌, ℕ, ◌+◌, List, Option, Some, None, refl, ap, ◌∙◌}
 use Rattle.dataset_tree.specs.declared.kinds.Kind.TheVariants.{Crypt}
 use Rattle.dataset_tree.specs.Tree.{with_row}
 use Rattle.encryption_roots.specs.declared.command.KeyCmd.TheVariants as commands
@@ -16,6 +15,7 @@ use Rattle.key_machine.specs.Told.{Told}
 use Rattle.key_machine.proofs.CloneLaws.{IsClonable, clonable, row, clone_grows, owner_of_clone, family_of_clone}
 use Rattle.key_machine.proofs.CreateLawsGrown.{encrypted_apart, family_apart, owner_stays, family_stays}
 use Rattle.key_machine.proofs.KeyLists.{at_id_is}
+use Rattle.key_machine.proofs.MasterLaws.{master_alike}
 use Rattle.key_machine.proofs.MountSteps.{kept_here}
 use Rattle.key_machine.proofs.SoundLemmas.{by_step, accepted_step}
 
@@ -39,9 +39,7 @@ module _ (p : Plain) (origin : ℕ) (name : List ℕ) (s : SoundTree p) (is : Is
   old_family_apart id encrypted = family_apart p (row p origin name s.tree is) p.roots p.wrapped p.loaded (clone_grows p origin name s.tree is) id encrypted
 
   pub other_master : (c : Ciphers) (first : ℕ) → first ≢ p.tree.last + 1 → mkey c (cloned p origin name) first ≡ mkey c p first
-  other_master c first apart =
-      ap (λ (owner : Option ℕ). option_and_then (λ stored. option_and_then (λ root. option_and_then (λ key. c.opens stored.wrapped key) (at_id root p.loaded)) owner) (at_id first p.wrapped))
-      (other_owner first apart)
+  other_master c first apart = master_alike c p (cloned p origin name) first refl (other_owner first apart) (λ root owner. refl)
 
   pub origin_master : (c : Ciphers) → mkey c (cloned p origin name) (family p.tree.rows origin) ≡ mkey c p (family p.tree.rows origin)
   origin_master c = other_master c (family p.tree.rows origin) (old_family_apart origin is.encrypted)

@@ -119,7 +119,7 @@ not_true false never = refl
 
 module _ (c : Ciphers) (p : Plain) (name : List ℕ) (opts : Options) (told : Told) (sound : Sound c p) (new : is_some (row_named name p.tree.rows) ≡ false)
     (known : is_none (parent_in p.tree.rows (parent_name name)) ≡ false) where
-  grows : (root encrypted : Bool) → Grows p (new_row p name encrypted) (roots_with p opts told root) (records_with p opts told encrypted) (loaded_with p told root)
+  pub grows : (root encrypted : Bool) → Grows p (new_row p name encrypted) (roots_with p opts told root) (records_with p opts told encrypted) (loaded_with p told root)
   grows root encrypted = record {
     tree = sound.tree.tree;
     id = refl;

@@ -1,11 +1,11 @@
 -- What a tree without a dataset that none needs leaves as it was: the rows, owners and families of the others.
-use Rattle.std.proofs.Common.{◌≡◌, ◌≢◌, ⊎_elim, ℕ, zero, suc, ◌<◌, ◌≤◌, Bool, true, false, not, cond, ◌==◌, ◌||◌, List, [], ◌∷◌, length, Option, Some, None, is_some, refl, ap, sym, ◌∙◌, subst, arith}
-use Rattle.std.proofs.lemmas.Bool.{cases_Bool, cases_eq, eq-eqb, ne_eqb, eqb-true, or_parts}
+use Rattle.std.proofs.Common.{◌≡◌, ◌≢◌, ⊎_elim, ℕ, zero, suc, ◌≤◌, Bool, true, false, not, cond, ◌==◌, ◌||◌, List, [], ◌∷◌, length, Option, Some, None, is_some, refl, ap, sym, ◌∙◌, subst, arith}
+use Rattle.std.proofs.lemmas.Bool.{cases_Bool, eq-eqb, ne_eqb, eqb-true, or_parts}
 use Rattle.std.specs.List.{filter, find, list_any}
 use Rattle.dataset_tree.specs.declared.kinds.Kind.{Kind}
 use Rattle.dataset_tree.specs.declared.kinds.Kind.TheVariants.{Plain as PlainKind, Crypt}
 use Rattle.dataset_tree.specs.declared.tree.Row.{Row}
-use Rattle.dataset_tree.specs.Tree.{IsTree, row_of, is_needed, without_row}
+use Rattle.dataset_tree.specs.Tree.{IsTree, row_of, is_needed}
 use Rattle.dataset_tree.proofs.RemoveLemmas.{IsTree-without_row}
 use Rattle.encryption_roots.specs.declared.props.Props.{Props}
 use Rattle.encryption_roots.specs.ById.{at_id, without_id}

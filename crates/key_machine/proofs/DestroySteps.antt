@@ -1,13 +1,12 @@
 -- What a destroy answers, which records it leaves, and what it leaves of others.
-use Rattle.std.proofs.Common.{◌≡◌, ◌≢◌, ◌↔◌, ⊎_elim, ℕ, ◌<◌, ◌≤◌, Bool, true, false, not, cond, ◌==◌, List, [], ◌∷◌, Option, Some, None, is_some, refl, ap, sym, ◌∙◌, subst, arith, if◌then◌else◌}
+use Rattle.std.proofs.Common.{◌≡◌, ◌≢◌, ◌↔◌, ⊎_elim, ℕ, ◌≤◌, Bool, true, false, not, ◌==◌, List, [], ◌∷◌, Option, Some, None, is_some, refl, ap, sym, ◌∙◌, subst, arith, if◌then◌else◌}
 use Rattle.std.proofs.lemmas.Bool.{cases_eq, cases_Bool, eq-eqb}
 use Rattle.std.proofs.lemmas.Bool.Decides.{nat_tests}
 use Rattle.std.specs.List.{All}
 use Rattle.std.specs.Option.{option_and_then}
-use Rattle.dataset_tree.specs.declared.kinds.Kind.{Kind}
-use Rattle.dataset_tree.specs.declared.kinds.Kind.TheVariants.{Plain as PlainKind, Crypt}
+use Rattle.dataset_tree.specs.declared.kinds.Kind.TheVariants.{Crypt}
 use Rattle.dataset_tree.specs.declared.refusal.Refusal.{Refusal}
-use Rattle.dataset_tree.specs.declared.refusal.Refusal.TheVariants.{NoSuch, Busy}
+use Rattle.dataset_tree.specs.declared.refusal.Refusal.TheVariants.{Busy}
 use Rattle.dataset_tree.specs.declared.tree.Row.{Row}
 use Rattle.dataset_tree.specs.Tree.{row_of, is_needed, without_row}
 use Rattle.encryption_roots.specs.declared.command.KeyCmd.TheVariants as commands
@@ -26,9 +25,10 @@ use Rattle.key_machine.specs.Told.{Told}
 use Rattle.key_machine.specs.Unload.{InUse}
 use Rattle.key_machine.specs.Users.{users_of, is_used}
 use Rattle.key_machine.proofs.CreateLawsCases.{found_has}
-use Rattle.key_machine.proofs.DestroyLaws.{unneeded_named, family_first, relative, no_relative, record_of_other, record_of_family, record_gone, alone, not_alone, owner_after, family_after, row_is}
+use Rattle.key_machine.proofs.DestroyLaws.{unneeded_named, relative, no_relative, record_of_other, record_of_family, record_gone, alone, not_alone, owner_after, family_after}
 use Rattle.key_machine.proofs.DestroyLawsRows.{owns_no_other, no_other_family}
 use Rattle.key_machine.proofs.KeyLists.{at_id_is}
+use Rattle.key_machine.proofs.MasterLaws.{master_alike}
 use Rattle.key_machine.proofs.MountSteps.{kept_here}
 use Rattle.key_machine.proofs.NamedLaws.{IsNamed, named, row_of_named}
 use Rattle.key_machine.proofs.SoundLemmas.{by_step, accepted_step}
@@ -194,8 +194,12 @@ absent_of (Some x) never = absurd (never refl)
 module _ (p : Plain) (id : ℕ) (row : Row) (found : row_of id p.tree.rows ≡ Some row) (s : SoundTree p) (free : is_needed id p.tree.rows ≡ false) where
   -- who isn't its family's first dataset is a clone, and so encrypted
   clone_encrypted : family p.tree.rows id ≢ id → IsEncrypted p id
-  clone_encrypted clone = (row, found, (found_has (λ (r : Row). r.origin ≢ 0 → (r.kind ≡ Crypt) × IsEncrypted p r.origin) (λ r. r.id == id) p.tree.rows row
-      (recursion_from_All (λ (r : Row). r.origin ≢ 0 → (r.kind ≡ Crypt) × IsEncrypted p r.origin) p.tree.rows s.origins) found has_origin).0) where
+  clone_encrypted clone = (
+    row,
+    found,
+    (found_has (λ (r : Row). r.origin ≢ 0 → (r.kind ≡ Crypt) × IsEncrypted p r.origin) (λ r. r.id == id) p.tree.rows row
+        (recursion_from_All (λ (r : Row). r.origin ≢ 0 → (r.kind ≡ Crypt) × IsEncrypted p r.origin) p.tree.rows s.origins) found has_origin).0,
+  ) where
     has_origin : row.origin ≢ 0
     has_origin first = clone (let zero_is : (row.origin == 0) ≡ true = eq-eqb row.origin 0 first in family_by_walking p.tree id s.tree ∙ rw (found, zero_is) refl)
 
@@ -240,22 +244,8 @@ module _ (c : Ciphers) (p : Plain) (s : Sound c p) (gone : ℕ) (free : is_neede
   key_stays at apart None owner = refl
   key_stays at apart (Some root) owner = ap (λ (key : Option (List ℕ)). is_some key) (loaded_stays at apart root owner)
 
-  opened_stays : (first : ℕ) → first ≢ gone → (stored : Stored) (found : Option ℕ) → owner_of p first ≡ found
-      → option_and_then (λ root. option_and_then (λ key. c.opens stored.wrapped key) (at_id root (without_id gone p.loaded))) found ≡ option_and_then (λ root. option_and_then (λ key. c.opens stored.wrapped key) (at_id root p.loaded)) found
-  opened_stays first apart stored None owner = refl
-  opened_stays first apart stored (Some root) owner = ap (λ (key : Option (List ℕ)). option_and_then (λ k. c.opens stored.wrapped k) key) (loaded_stays first apart root owner)
-
-  stored_stays : (first : ℕ) → first ≢ gone → (found : Option Stored)
-      → option_and_then (λ stored. option_and_then (λ root. option_and_then (λ key. c.opens stored.wrapped key) (at_id root (without_id gone p.loaded))) (owner_of p first)) found
-      ≡ option_and_then (λ stored. option_and_then (λ root. option_and_then (λ key. c.opens stored.wrapped key) (at_id root p.loaded)) (owner_of p first)) found
-  stored_stays first apart None = refl
-  stored_stays first apart (Some stored) = opened_stays first apart stored (owner_of p first) refl
-
   master_stays : (first : ℕ) → first ≢ gone → at_id first (records_left p gone) ≡ at_id first p.wrapped → mkey c (destroyed p gone) first ≡ mkey c p first
-  master_stays first apart record_is =
-      ap (λ (found : Option Stored). option_and_then (λ stored. option_and_then (λ root. option_and_then (λ key. c.opens stored.wrapped key) (at_id root (without_id gone p.loaded))) (owner_of (destroyed p gone) first)) found) record_is
-      ∙ ap (λ (owner : Option ℕ). option_and_then (λ stored. option_and_then (λ root. option_and_then (λ key. c.opens stored.wrapped key) (at_id root (without_id gone p.loaded))) owner) (at_id first p.wrapped)) (owner_after p gone free s.tree first apart)
-      ∙ stored_stays first apart (at_id first p.wrapped)
+  master_stays first apart record_is = master_alike c p (destroyed p gone) first record_is (owner_after p gone free s.tree first apart) (loaded_stays first apart)
 
   record_stays : id ≢ gone → at_id (family p.tree.rows id) (records_left p gone) ≡ at_id (family p.tree.rows id) p.wrapped
   record_stays apart =

@@ -10,6 +10,7 @@ pub mod KeyLists
 pub mod LoadLaws
 pub mod UnloadLaws
 pub mod NamedLaws
+pub mod MasterLaws
 pub mod SlotLaws
 pub mod MountLaws
 pub mod MountSteps
@@ -30,3 +31,5 @@ pub mod RekeyFair
 pub mod ToldLaws
 pub mod RekeyLaws
 pub mod FamilyNames
+pub mod UsedLaws
+pub mod CountLaws

@@ -1,6 +1,6 @@
 -- Mounts, unmounts and reaps keep a sound state sound.
-use Rattle.std.proofs.Common.{◌≡◌, ◌≢◌, ℕ, ◌+◌, ◌<◌, ◌≤◌, Bool, true, false, not, ◌==◌, ◌||◌, List, [], ◌∷◌, length, get_or, set, map, Option, Some, None, is_some, refl, ap, sym, ◌∙◌, subst, arith, if◌then◌else◌}
-use Rattle.std.proofs.lemmas.Bool.{eq-eqb, eqb-true}
+use Rattle.std.proofs.Common.{◌≡◌, ◌≢◌, ℕ, ◌+◌, ◌<◌, ◌≤◌, Bool, true, false, not, ◌==◌, ◌||◌, List, length, get_or, set, map, Option, Some, None, is_some, refl, ap, sym, ◌∙◌, subst, arith, if◌then◌else◌}
+use Rattle.std.proofs.lemmas.Bool.{eqb-true}
 use Rattle.std.proofs.lemmas.List.{get_or-map, length-map, length-set}
 use Rattle.std.proofs.lemmas.List.Elements.{All-filter, All-set, All-weaker}
 use Rattle.std.proofs.lemmas.List.Kept.{AllPairs-filter}
@@ -9,12 +9,12 @@ use Rattle.std.specs.Option.{option_and_then}
 use Rattle.dataset_tree.specs.declared.tree.Row.{Row}
 use Rattle.dataset_tree.specs.Tree.{IsTree, row_named}
 use Rattle.encryption_roots.specs.declared.command.KeyCmd.TheVariants as commands
-use Rattle.encryption_roots.specs.ById.{at_id, with_id, without_id}
+use Rattle.encryption_roots.specs.ById.{at_id, with_id}
 use Rattle.encryption_roots.proofs.ByIdLemmas.{IsRisingById-with_id, at_id-with_id, at_id-with_id_other}
 use Rattle.key_machine.specs.Free.{IsLowestFree}
-use Rattle.key_machine.specs.Mount.{is_taken, free_slot, is_mapped, is_mounted_row, has_slot_row, mount_cases, with_mounted, with_mapping, mounted_on, mounted_at, mount_done}
+use Rattle.key_machine.specs.Mount.{free_slot, is_mapped, is_mounted_row, has_slot_row, mount_cases, with_mounted, with_mapping, mounted_on, mounted_at, mount_done}
 use Rattle.key_machine.specs.Plain.{Plain, Ciphers, has_key}
-use Rattle.key_machine.specs.Reap.{mapping_in_use, own_in_use, without_mapping, reaped, reap_found, reap_step}
+use Rattle.key_machine.specs.Reap.{mapping_in_use, own_in_use, without_mapping, reaped, reap_step}
 use Rattle.key_machine.specs.Rekey.{has_key_row}
 use Rattle.key_machine.specs.Sound.{Sound, SoundTree, SoundKeys, IsEncrypted}
 use Rattle.key_machine.specs.Step.{refusal_of, target}
@@ -24,7 +24,7 @@ use Rattle.key_machine.specs.Users.{generation_of, is_mounted, users_of, is_used
 use Rattle.key_machine.proofs.CreateLawsStep.{NoneHolds, none_holds}
 use Rattle.key_machine.proofs.KeyLists.{All-with_id, each_found}
 use Rattle.key_machine.proofs.NamedLaws.{IsNamed, named, not_false, encrypted_named}
-use Rattle.key_machine.proofs.SlotLaws.{contained_slot, lowest_free, slots_with, with_contains, all_with_mount, mounts_rise, other_generation}
+use Rattle.key_machine.proofs.SlotLaws.{lowest_free, slots_with, with_contains, all_with_mount, mounts_rise, other_generation}
 use Rattle.key_machine.proofs.UnloadLaws.{closing_sound}
 
 -- ---- what the state doesn't refuse

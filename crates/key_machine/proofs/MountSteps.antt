@@ -1,15 +1,15 @@
 -- What mounts, unmounts and reaps answer, and what they leave.
-use Rattle.std.proofs.Common.{◌≡◌, ◌≢◌, ◌↔◌, ◌⊎◌, ⊎_elim, inl, inr, ℕ, suc, ◌+◌, ◌<◌, ◌≤◌, Bool, true, false, not, cond, ◌==◌, ◌||◌, List, [], ◌∷◌, ◌++◌, length, get_or, set, Option, Some, None, is_some, option_map, refl, ap, sym, ◌∙◌, subst, arith, if◌then◌else◌}
+use Rattle.std.proofs.Common.{◌≡◌, ◌≢◌, ◌↔◌, ◌⊎◌, ⊎_elim, inl, inr, ℕ, suc, ◌+◌, ◌<◌, ◌≤◌, Bool, true, false, not, ◌==◌, ◌||◌, List, [], ◌∷◌, ◌++◌, length, get_or, set, Option, Some, None, is_some, option_map, refl, ap, sym, ◌∙◌, subst, arith, if◌then◌else◌}
 use Rattle.std.proofs.lemmas.Bool.{eq-eqb, eqb-true, or_parts, cases_Bool}
 use Rattle.std.proofs.lemmas.Bool.Decides.{nat_tests}
 use Rattle.std.specs.Prelude.{is_none}
-use Rattle.std.specs.List.{count_by, filter, list_any}
+use Rattle.std.specs.List.{count_by, filter}
 use Rattle.std.specs.Option.{option_and_then}
 use Rattle.dataset_tree.specs.declared.kinds.Kind.TheVariants.{Crypt}
 use Rattle.dataset_tree.specs.declared.refusal.Refusal.{Refusal}
 use Rattle.dataset_tree.specs.declared.refusal.Refusal.TheVariants.{NoSuch, NotEncrypted, Mounted, NotMounted, KeyUnavailable, Full}
 use Rattle.dataset_tree.specs.declared.tree.Row.{Row}
-use Rattle.dataset_tree.specs.Tree.{row_named, id_named}
+use Rattle.dataset_tree.specs.Tree.{row_named}
 use Rattle.encryption_roots.specs.declared.command.KeyCmd.TheVariants as commands
 use Rattle.encryption_roots.specs.ById.{at_id, with_id, without_id}
 use Rattle.encryption_roots.specs.Owners.{family}
@@ -19,22 +19,22 @@ use Rattle.key_machine.specs.Free.{IsLowestFree, AllBlocked}
 use Rattle.key_machine.specs.Kept.{KeepsKey}
 use Rattle.key_machine.specs.Mount.{free_slot, is_mapped, is_mounted_row, has_slot_row, mount_cases, mounted_on, mounted_at, mount_done}
 use Rattle.key_machine.specs.Plain.{Plain, Ciphers, has_key, is_encrypted_row, is_encrypted_kind}
-use Rattle.key_machine.specs.Reap.{mapping_in_use, own_in_use, reaped, reap_found, reap_step}
+use Rattle.key_machine.specs.Reap.{mapping_in_use, reaped, reap_found, reap_step}
 use Rattle.key_machine.specs.Refusals.{first_of}
 use Rattle.key_machine.specs.Rekey.{has_key_row}
 use Rattle.key_machine.specs.Reply.{Stepped, Done, Refused, Reaped}
 use Rattle.key_machine.specs.Step.{key_step, refusal_of, target, IsAccepted}
 use Rattle.key_machine.specs.Told.{Told}
 use Rattle.key_machine.specs.Unload.{InUse}
-use Rattle.key_machine.specs.Unmount.{unmount_cases, unmount_done}
+use Rattle.key_machine.specs.Unmount.{unmount_done}
 use Rattle.key_machine.specs.Users.{generation_of, is_mounted, users_of, is_used, mkey_users, with_mount}
 use Rattle.key_machine.proofs.CreateLawsStep.{NoneHolds, none_holds}
 use Rattle.key_machine.proofs.KeyLists.{at_id_is, count_at}
 use Rattle.key_machine.proofs.MountLaws.{IsMountable, mountable}
-use Rattle.key_machine.proofs.NamedLaws.{IsNamed, named, not_false}
+use Rattle.key_machine.proofs.NamedLaws.{IsNamed, named}
 use Rattle.key_machine.proofs.SlotLaws.{lowest_free, all_blocked, blocked_all, mounted_with, with_without, other_generation}
 use Rattle.key_machine.proofs.SoundLemmas.{by_step, accepted_step, refused_step}
-use Rattle.key_machine.proofs.UnloadLaws.{IsApart, not_among}
+use Rattle.key_machine.proofs.UnloadLaws.{IsApart}
 
 -- ---- lists of cases
 
@@ -318,7 +318,7 @@ module _ (p : Plain) (dataset : ℕ) where
   by_users slot true used there = (
     λ reply. absurd (let apart : Reaped dataset false ≡ Reaped dataset true = reply in let unlike : false ≡ true = cc in cc),
     λ idle. absurd (let both : Some slot ≡ Some idle.0 = sym there ∙ idle.1 in let same : idle.0 ≡ slot = cc in
-    let none : users_of p (dataset, slot) ≡ 0 = ap (λ (m : ℕ). users_of p (dataset, m)) (sym same) ∙ idle.2 in let fails : is_used p (dataset, slot) ≡ false = none_used (users_of p (dataset, slot)) none in cc),
+        let none : users_of p (dataset, slot) ≡ 0 = ap (λ (m : ℕ). users_of p (dataset, m)) (sym same) ∙ idle.2 in let fails : is_used p (dataset, slot) ≡ false = none_used (users_of p (dataset, slot)) none in cc),
   )
   by_users slot false used there = (λ reply. (slot, there, no_users (users_of p (dataset, slot)) used), λ idle. refl)
 

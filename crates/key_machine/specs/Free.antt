@@ -1,5 +1,5 @@
 -- What is said of a free slot, and where there is none.
-use Rattle.std.specs.Prelude.{◌≡◌, ◌≢◌, ◌⊎◌, ℕ, ◌<◌, ◌≤◌, map}
+use Rattle.std.specs.Prelude.{◌≢◌, ◌⊎◌, ℕ, ◌<◌, ◌≤◌, map}
 use Rattle.std.specs.List.{All, Contains}
 use Rattle.key_machine.specs.Limits.{slot_count, max_generation}
 use Rattle.key_machine.specs.Plain.{Plain}

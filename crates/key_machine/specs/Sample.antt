@@ -107,8 +107,8 @@ abbrev pub all_used_up : Plain
 all_used_up = record sample { gens = replicate 256 1073741823 }
 
 -- the host with as many datasets as there may be
+abbrev pub more : Row
+more = record { id = 6; parent = 0; name = codes "more"; kind = PlainKind; origin = 0 }
+
 abbrev pub full : Plain
-full = record sample { tree = record {
-  rows = sample_rows ++ replicate 251 (record { id = 6; parent = 0; name = codes "more"; kind = PlainKind; origin = 0 });
-  last = 6;
-} }
+full = record sample { tree = record { rows = sample_rows ++ replicate 251 more; last = 6 } }

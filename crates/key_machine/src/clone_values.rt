@@ -14,12 +14,14 @@ ghost use Rattle.key_machine.specs.Told.{nothing_told};
 /// same key.
 pub fn clones_of_datasets()
     ensures below { key_step sample (commands.Clone (codes "tank/a") (codes "lake/c")) nothing_told ≡ record {
-          state = record sample { tree = record {
-            rows = sample_rows ++ record { id = 6; parent = 5; name = codes "lake/c"; kind = Crypt; origin = 2 } ∷ [];
-            last = 6;
-          } };
-          reply = Made 6;
-        } }
+      state = record sample {
+        tree = record {
+          rows = sample_rows ++ record { id = 6; parent = 5; name = codes "lake/c"; kind = Crypt; origin = 2 } ∷ [];
+          last = 6;
+        };
+      };
+      reply = Made 6;
+    } }
     ensures owner { owner_of (key_step sample (commands.Clone (codes "tank/a") (codes "lake/c")) nothing_told).state 6
         ≡ Some 1 }
     ensures again { family
@@ -59,11 +61,11 @@ pub fn destroys_of_datasets()
           state = record sample {
             tree = record {
               rows =
-                record { id = 1; parent = 0; name = codes "tank"; kind = Crypt; origin = 0 }
-                ∷ record { id = 2; parent = 1; name = codes "tank/a"; kind = Crypt; origin = 0 }
-                ∷ record { id = 3; parent = 1; name = codes "tank/b"; kind = Crypt; origin = 0 }
-                ∷ record { id = 5; parent = 0; name = codes "lake"; kind = PlainKind; origin = 0 }
-                ∷ [];
+                  record { id = 1; parent = 0; name = codes "tank"; kind = Crypt; origin = 0 }
+                  ∷ record { id = 2; parent = 1; name = codes "tank/a"; kind = Crypt; origin = 0 }
+                  ∷ record { id = 3; parent = 1; name = codes "tank/b"; kind = Crypt; origin = 0 }
+                  ∷ record { id = 5; parent = 0; name = codes "lake"; kind = PlainKind; origin = 0 }
+                  ∷ [];
               last = 5;
             };
             mapped = (2, 0) ∷ [];
@@ -76,30 +78,30 @@ pub fn destroys_of_datasets()
           state = record sample {
             tree = record {
               rows =
-                record { id = 1; parent = 0; name = codes "tank"; kind = Crypt; origin = 0 }
-                ∷ record { id = 2; parent = 1; name = codes "tank/a"; kind = Crypt; origin = 0 }
-                ∷ record { id = 4; parent = 0; name = codes "copy"; kind = Crypt; origin = 2 }
-                ∷ record { id = 5; parent = 0; name = codes "lake"; kind = PlainKind; origin = 0 }
-                ∷ [];
+                  record { id = 1; parent = 0; name = codes "tank"; kind = Crypt; origin = 0 }
+                  ∷ record { id = 2; parent = 1; name = codes "tank/a"; kind = Crypt; origin = 0 }
+                  ∷ record { id = 4; parent = 0; name = codes "copy"; kind = Crypt; origin = 2 }
+                  ∷ record { id = 5; parent = 0; name = codes "lake"; kind = PlainKind; origin = 0 }
+                  ∷ [];
               last = 5;
             };
             wrapped = (1, record { wrapped = 11 ∷ []; block = 512 }) ∷ (2, record { wrapped = 22 ∷ []; block = 512 })
-              ∷ [];
+                ∷ [];
           };
           reply = Done;
         } }
     ensures plain { key_step sample (commands.Destroy (codes "lake") false) nothing_told ≡ record {
-          state = record sample {
-            tree = record {
-              rows =
-                record { id = 1; parent = 0; name = codes "tank"; kind = Crypt; origin = 0 }
-                ∷ record { id = 2; parent = 1; name = codes "tank/a"; kind = Crypt; origin = 0 }
-                ∷ record { id = 3; parent = 1; name = codes "tank/b"; kind = Crypt; origin = 0 }
-                ∷ record { id = 4; parent = 0; name = codes "copy"; kind = Crypt; origin = 2 }
-                ∷ [];
-              last = 5;
-            };
-          };
-          reply = Done;
-        } }
+      state = record sample {
+        tree = record {
+          rows =
+              record { id = 1; parent = 0; name = codes "tank"; kind = Crypt; origin = 0 }
+              ∷ record { id = 2; parent = 1; name = codes "tank/a"; kind = Crypt; origin = 0 }
+              ∷ record { id = 3; parent = 1; name = codes "tank/b"; kind = Crypt; origin = 0 }
+              ∷ record { id = 4; parent = 0; name = codes "copy"; kind = Crypt; origin = 2 }
+              ∷ [];
+          last = 5;
+        };
+      };
+      reply = Done;
+    } }
 {}

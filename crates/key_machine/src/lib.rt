@@ -17,6 +17,7 @@ mod laws;
 mod mapping_laws;
 mod mapping_values;
 mod sound_laws;
+mod used_laws;
 mod values;
 mod view;
 
@@ -53,7 +54,7 @@ pub use mapping_laws::{
     a_family_is_opened_where_a_dataset_is_mapped, a_fresh_mount_takes_the_lowest_free_slot,
     a_mapped_dataset_is_mounted_on_its_slot, a_mapping_keeps_its_key_over_mounts,
     a_reap_drops_an_idle_mapping_alone, a_reap_keeps_soundness, a_second_mount_is_as_the_first,
-    an_unmount_keeps_the_mappings,
+    an_unmount_keeps_the_mappings, counts_are_in_order,
 };
 pub use mapping_values::{
     counts_by_id, mounts_are_refused_in_order, reaps_of_mappings, slots_of_mounts,
@@ -63,6 +64,7 @@ pub use sound_laws::{
     a_loaded_key_opens_its_families, mounts_and_holds_are_bounded,
     records_are_of_the_owned_families,
 };
+pub use used_laws::a_used_mapping_keeps_its_master_key;
 pub use values::{
     creates_are_refused_in_order, defaults_of_a_create, holds_of_a_rider, holds_stand_by_rider,
     loads_are_refused_in_order, master_keys_of_families, places_of_takings, users_of_keys,

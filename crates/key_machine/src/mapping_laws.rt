@@ -1,12 +1,12 @@
 // Laws of mappings: mounts, unmounts and reaps.
-ghost use Rattle.std.specs.Prelude.{◌≡◌, ◌⊎◌, ◌↔◌, ℕ, ◌+◌, Bool, not, ◌==◌, true, false, List, Option, Some, None, is_some, is_none, slice_set};
-ghost use Rattle.std.specs.List.{filter};
+ghost use Rattle.std.specs.Prelude.{◌≡◌, ◌⊎◌, ◌↔◌, ℕ, ◌+◌, ◌<◌, Bool, not, ◌==◌, true, false, List, Option, Some, None, is_some, is_none, slice_set};
+ghost use Rattle.std.specs.List.{AllPairs, filter};
 ghost use Rattle.dataset_tree.specs.declared.kinds.Kind.TheVariants.{Crypt};
 ghost use Rattle.dataset_tree.specs.declared.refusal.Refusal.TheVariants.{Full};
 ghost use Rattle.dataset_tree.specs.declared.tree.Row.{Row};
 ghost use Rattle.dataset_tree.specs.Tree.{row_named};
 ghost use Rattle.encryption_roots.specs.declared.command.KeyCmd.TheVariants as commands;
-ghost use Rattle.encryption_roots.specs.ById.{at_id, with_id, without_id};
+ghost use Rattle.encryption_roots.specs.ById.{IsRisingById, at_id, with_id, without_id};
 ghost use Rattle.encryption_roots.specs.Owners.{family};
 ghost use Rattle.key_machine.specs.Plain.{Plain, Ciphers, has_key};
 ghost use Rattle.key_machine.specs.Users.{generation_of, is_mounted, users_of, with_mount};
@@ -16,7 +16,7 @@ ghost use Rattle.key_machine.specs.Step.{refusal_of, target, key_step, IsAccepte
 ghost use Rattle.key_machine.specs.Told.{Told};
 ghost use Rattle.key_machine.specs.Unload.{InUse};
 ghost use Rattle.key_machine.specs.Reap.{reap_step, reap_found};
-ghost use Rattle.key_machine.specs.Counts.{is_opened};
+ghost use Rattle.key_machine.specs.Counts.{is_opened, counts};
 ghost use Rattle.key_machine.specs.Free.{IsLowestFree, AllBlocked};
 ghost use Rattle.key_machine.specs.Kept.{KeepsKey};
 
@@ -100,4 +100,11 @@ pub fn a_reap_drops_an_idle_mapping_alone()
 pub fn a_family_is_opened_where_a_dataset_is_mapped()
     ensures { (p : Plain) (first : ℕ) → (is_opened p first ≡ true)
         ↔ ((dataset : ℕ) × (is_some (at_id dataset p.mapped) ≡ true) × (family p.tree.rows dataset ≡ first)) }
+{}
+
+/// In a sound state each list of counts is in order of id, and no id comes twice.
+pub fn counts_are_in_order()
+    ensures wkeys { (c : Ciphers) (p : Plain) → Sound c p → IsRisingById (counts p).wkeys }
+    ensures mkeys { (c : Ciphers) (p : Plain) → Sound c p → IsRisingById (counts p).mkeys }
+    ensures maps { (c : Ciphers) (p : Plain) → Sound c p → AllPairs (λ a b. a.0 < b.0) (counts p).maps }
 {}

@@ -14,21 +14,21 @@ ghost use Rattle.key_machine.specs.Told.{nothing_told};
 /// used up; and where none is free it mounts what is mapped already, and refuses all else.
 pub fn slots_of_mounts()
     ensures free { key_step sample (commands.Mount (codes "tank/b")) nothing_told ≡ record {
-          state = record sample {
-            gens = (1 ∷ 1 ∷ 6 ∷ []) ++ replicate 253 0;
-            mapped = (2, 0) ∷ (3, 2) ∷ (4, 1) ∷ [];
-            mounted = 2 ∷ 3 ∷ [];
-          };
-          reply = Done;
-        } }
+      state = record sample {
+        gens = (1 ∷ 1 ∷ 6 ∷ []) ++ replicate 253 0;
+        mapped = (2, 0) ∷ (3, 2) ∷ (4, 1) ∷ [];
+        mounted = 2 ∷ 3 ∷ [];
+      };
+      reply = Done;
+    } }
     ensures used { key_step used_up (commands.Mount (codes "tank")) nothing_told ≡ record {
-          state = record sample {
-            gens = (1 ∷ 1 ∷ 1073741823 ∷ 1 ∷ []) ++ replicate 252 0;
-            mapped = (1, 3) ∷ (2, 0) ∷ (4, 1) ∷ [];
-            mounted = 1 ∷ 2 ∷ [];
-          };
-          reply = Done;
-        } }
+      state = record sample {
+        gens = (1 ∷ 1 ∷ 1073741823 ∷ 1 ∷ []) ++ replicate 252 0;
+        mapped = (1, 3) ∷ (2, 0) ∷ (4, 1) ∷ [];
+        mounted = 1 ∷ 2 ∷ [];
+      };
+      reply = Done;
+    } }
     ensures again { key_step all_used_up (commands.Mount (codes "copy")) nothing_told
         ≡ record { state = record all_used_up { mounted = 2 ∷ 4 ∷ [] }; reply = Done } }
     ensures none { (key_step all_used_up (commands.Mount (codes "tank/b")) nothing_told).reply ≡ Refused (Full 256) }
@@ -53,9 +53,9 @@ pub fn unloads_while_in_use()
     ensures mounted { key_step sample (commands.Unload (codes "tank")) nothing_told
         ≡ record { state = sample; reply = Refused (Busy 2 1) } }
     ensures held { key_step (record sample { mounted = [] }) (commands.Unload (codes "tank")) nothing_told ≡ record {
-          state = record sample { mapped = (4, 1) ∷ []; mounted = [] };
-          reply = Refused (Busy 4 2);
-        } }
+      state = record sample { mapped = (4, 1) ∷ []; mounted = [] };
+      reply = Refused (Busy 4 2);
+    } }
     ensures idle { key_step (record sample { mounted = []; users = [] }) (commands.Unload (codes "tank")) nothing_told
         ≡ record {
           state = record sample { loaded = []; mapped = []; mounted = []; users = [] };
@@ -81,13 +81,13 @@ pub fn reaps_of_mappings()
 /// mounted and the other held twice.
 pub fn counts_by_id()
     ensures one { counts sample ≡ record {
-          wkeys = (1, 1) ∷ [];
-          mkeys = (2, 2) ∷ [];
-          maps = (2, 1, 1) ∷ (4, 2, 1) ∷ [];
-        } }
+      wkeys = (1, 1) ∷ [];
+      mkeys = (2, 2) ∷ [];
+      maps = (2, 1, 1) ∷ (4, 2, 1) ∷ [];
+    } }
     ensures two { counts (key_step sample (commands.Mount (codes "tank/b")) nothing_told).state ≡ record {
-          wkeys = (1, 2) ∷ [];
-          mkeys = (2, 2) ∷ (3, 1) ∷ [];
-          maps = (2, 1, 1) ∷ (3, 1, 6) ∷ (4, 2, 1) ∷ [];
-        } }
+      wkeys = (1, 2) ∷ [];
+      mkeys = (2, 2) ∷ (3, 1) ∷ [];
+      maps = (2, 1, 1) ∷ (3, 1, 6) ∷ (4, 2, 1) ∷ [];
+    } }
 {}
