@@ -1,16 +1,17 @@
 -- A fresh family stands on an honest shelf.
 use Rattle.std.proofs.Common.{◌≡◌, ℕ, Bool, true, false, List, [], ◌∷◌, ◌++◌, Option, Some, None, Ok, IfSome, refl, ap, sym, ◌∙◌, subst, arith}
-use Rattle.std.specs.Prelude.{◌==◌, IsTrue, nat_lt}
+use Rattle.std.specs.Prelude.{◌==◌, IsTrue, nat_lt, nat_le}
 use Rattle.std.specs.Option.{option_flatten}
 use Rattle.std.proofs.lemmas.Bool.Decides.{nat_tests}
 use Rattle.indirect_macs.specs.Walk.{walk}
+use Rattle.indirect_macs.specs.Runs.{walk_to}
 use Rattle.salt_rotation.specs.SaltState.{SaltState}
 use Rattle.family_log.specs.declared.table.Table.{Table}
 use Rattle.family_log.specs.declared.entry.Spot.{Spot}
 use Rattle.family_log.specs.declared.entry.LogEntry.{LogEntry}
 use Rattle.family_log.specs.declared.entry.LogEntry.TheVariants.{Make}
-use Rattle.family_log.specs.Tables.{fresh_table, length_in}
-use Rattle.family_log.specs.Log.{head_spot, length_said, ref_in, last_ref, last_length, newest, is_head}
+use Rattle.family_log.specs.Tables.{blocks_of, fresh_table, length_in}
+use Rattle.family_log.specs.Log.{KeepsLast, head_spot, length_said, ref_in, last_ref, last_length, newest, is_head}
 use Rattle.family_log.specs.Model.{FamilyState, fresh_family, table_of}
 use Rattle.family_log.specs.declared.entry.ReadNote.{ReadNote}
 use Rattle.family_log.specs.Noted.{noted}
@@ -33,12 +34,16 @@ unfolding newest
 fresh_length head object record_size portable spot here =
     by_space (1 == object) (λ first. rw (here, first) refl) (λ other. rw (here, other) refl)
 
-fresh_ref : (head object index : ℕ) (spot : Spot) → is_head head spot ≡ true → last_ref (fresh_log head) spot object index ≡ None
+fresh_ref : (record_size head object index : ℕ) (spot : Spot) → is_head head spot ≡ true
+    → last_ref record_size (fresh_log head) spot object index ≡ None
 unfolding newest
-fresh_ref head object index spot here = rw here refl
+fresh_ref record_size head object index spot here =
+    by_space (1 == object)
+    (λ first. by_space (nat_le (blocks_of record_size 0) index) (λ past. rw (here, first, past) refl) (λ within. rw (here, first, within) refl))
+    (λ other. rw (here, other) refl)
 
 fresh_leads : (record_size : ℕ) (portable : List ℕ) (object index : ℕ) → leads [] (fresh_table record_size portable) object index ≡ Ok None
-unfolding walk
+unfolding walk walk_to
 fresh_leads record_size portable object index =
     by_space (1 == object)
     (λ first. by_space (nat_lt index 32) (λ within. rw (first, within) refl) (λ past. rw (first, past) refl))
@@ -48,16 +53,26 @@ fresh_tells : (head record_size : ℕ) (portable : List ℕ) (spot : Spot) → i
     → TellsTheLog [] (fresh_log head) spot (fresh_table record_size portable)
 fresh_tells head record_size portable spot here = record {
   lengths = λ object. fresh_length head object record_size portable spot here;
-  refs = λ object index. fresh_leads record_size portable object index ∙ ap Ok (sym (fresh_ref head object index spot here));
+  refs = λ object index. fresh_leads record_size portable object index ∙ ap Ok (sym (fresh_ref record_size head object index spot here));
 }
 
-told_still : (blocks : List (List ℕ)) (log : List LogEntry) (of_note : Spot) (what : ReadNote) (spot : Spot) (found : Option Table)
-    → IfSome found (λ table. TellsTheLog blocks log spot table)
-    → IfSome found (λ table. TellsTheLog blocks (log ++ noted of_note what ∷ []) spot table)
-told_still blocks log of_note what spot None tells = tt
-told_still blocks log of_note what spot (Some table) tells = record {
-  lengths = λ object. tells.lengths object ∙ ap option_flatten (sym (newest-noted (length_said object) spot of_note what log));
-  refs = λ object index. tells.refs object index ∙ ap Ok (ap option_flatten (sym (newest-noted (ref_in object index) spot of_note what log)));
+-- what a table tells of a spot it tells of each spot that is read as that one
+pub tells-kept : (blocks : List (List ℕ)) (log later : List LogEntry) (from spot : Spot) (table : Table) → KeepsLast log from later spot
+    → TellsTheLog blocks log from table → TellsTheLog blocks later spot table
+tells-kept blocks log later from spot table kept tells = record {
+  lengths = λ object. tells.lengths object ∙ sym (kept.lengths object);
+  refs = λ object index. tells.refs object index ∙ ap Ok (sym (kept.refs table.block object index));
+}
+
+pub told_still : (blocks : List (List ℕ)) (log later : List LogEntry) (spot : Spot) (found : Option Table) → KeepsLast log spot later spot
+    → IfSome found (λ table. TellsTheLog blocks log spot table) → IfSome found (λ table. TellsTheLog blocks later spot table)
+told_still blocks log later spot None kept tells = tt
+told_still blocks log later spot (Some table) kept tells = tells-kept blocks log later spot spot table kept tells
+
+noted_keeps : (log : List LogEntry) (of_note spot : Spot) (what : ReadNote) → KeepsLast log spot (log ++ noted of_note what ∷ []) spot
+noted_keeps log of_note spot what = record {
+  lengths = λ object. ap option_flatten (newest-noted (length_said object) spot of_note what log);
+  refs = λ record_size object index. ap option_flatten (newest-noted (ref_in record_size object index) spot of_note what log);
 }
 
 -- a fresh head, found or not
@@ -99,5 +114,6 @@ IsHonest-noted family of_note what honest = record {
   blocks = honest.blocks;
   placed = honest.placed;
   held = honest.held;
-  spots = λ spot. told_still honest.blocks family.log of_note what spot (table_of spot family.heads) (honest.spots spot);
+  spots = λ spot. told_still honest.blocks family.log (family.log ++ noted of_note what ∷ []) spot (table_of spot family.heads)
+      (noted_keeps family.log of_note spot what) (honest.spots spot);
 }

@@ -3,3 +3,9 @@ pub mod HeadLemmas
 pub mod SameLemmas
 pub mod HonestLemmas
 pub mod FreshLemmas
+pub mod LevelLemmas
+pub mod GrownLemmas
+pub mod ChangeLemmas
+pub mod SnapLemmas
+pub mod SpotLemmas
+pub mod KeptLemmas

@@ -1,45 +1,29 @@
 -- Lemmas on what the log tells.
-use Rattle.std.proofs.Common.{◌≡◌, ℕ, ◌-◌, ◌<◌, ◌≤◌, zero, suc, true, false, ◌&&◌, List, [], ◌∷◌, ◌++◌, length, get_or, take, Option, Some, None, refl, ap, sym, ◌∙◌, arith, reverse, append_assoc}
-use Rattle.std.specs.Prelude.{◌==◌, if◌then◌else◌}
-use Rattle.std.specs.List.{All, find}
+use Rattle.std.proofs.Common.{◌≡◌, ℕ, ◌-◌, ◌<◌, ◌≤◌, zero, suc, Bool, true, false, List, [], ◌∷◌, ◌++◌, length, get_or, take, Option, Some, None, refl, ap, sym, ◌∙◌, arith, reverse, append_assoc}
+use Rattle.std.specs.Prelude.{if◌then◌else◌}
+use Rattle.std.specs.List.{All}
 use Rattle.std.proofs.lemmas.List.Elements.{All-head, All-tail}
 use Rattle.std.proofs.lemmas.Bool.Decides.{Decides-eqb}
 use Rattle.std.proofs.lemmas.Slice.Eq.{bytes_eq-Decides}
-use Rattle.std.specs.Option.{option_and_then, option_flatten, option_map, option_or}
+use Rattle.std.specs.Option.{option_and_then, option_flatten, option_or}
 use Rattle.std.proofs.lemmas.List.{reverse-append, append-nil}
 use Rattle.std.proofs.Math.Seq.{take-suc}
-use Rattle.family_log.specs.declared.entry.RefAt.{RefAt}
+use Rattle.indirect_macs.specs.declared.refs.BlockRef.{BlockRef}
 use Rattle.family_log.specs.declared.entry.Spot.{Spot}
 use Rattle.family_log.specs.declared.entry.LogEntry.{LogEntry}
 use Rattle.family_log.specs.declared.entry.LogEntry.TheVariants.{Make, Write, Cut, Remove, Receive, Snapshot, Clone, Read, Refused}
 use Rattle.family_log.specs.declared.entry.ReadNote.{ReadNote}
 use Rattle.family_log.specs.declared.entry.ReadNote.TheVariants as notes
 use Rattle.family_log.specs.Noted.{noted}
-use Rattle.family_log.specs.Reading.{refs_of}
-use Rattle.family_log.specs.Log.{Changes, Passes, changes_in, head_spot, snap_spot, is_head, is_snap, newest, ref_in, said, stood}
-
-abbrev pub refs_read : ℕ → List RefAt → ℕ × List RefAt
-refs_read head refs = (head, refs)
+use Rattle.family_log.specs.Log.{Changes, Passes, changes_in, head_spot, snap_spot, is_head, is_past, is_snap, length_said, newest, ref_in, ref_listed, said, stood}
 
 none_is_some : {X : Type 0} {x : X} → None ≡ Some x → ⊥
 none_is_some e = cc
 
--- what changes say that are read as a head and references
-said_among : (spot : Spot) (object index head : ℕ) (refs : List RefAt) (found : Option Changes)
-    → Some (refs_read head refs) ≡ option_map refs_of found → is_head head spot ≡ true
-    → option_and_then (λ changes. if is_head changes.head spot then ref_in object index changes else None) found
-    ≡ option_map (λ ref. ref.to) (find (λ ref. ref.object == object && ref.index == index) refs)
-said_among spot object index head refs None e is = cc
-said_among spot object index head refs (Some changes) e is =
-    let heads : head ≡ changes.head = grind arith in
-    let lists : refs ≡ changes.refs = grind arith in
-    rw (sym heads, is, lists) refl
-
-pub said-changed : (spot : Spot) (object index head : ℕ) (refs : List RefAt) (entry : LogEntry)
-    → Some (refs_read head refs) ≡ option_map refs_of (changes_in entry) → is_head head spot ≡ true
-    → said (ref_in object index) spot entry
-    ≡ option_map (λ ref. ref.to) (find (λ ref. ref.object == object && ref.index == index) refs)
-said-changed spot object index head refs entry e is = said_among spot object index head refs (changes_in entry) e is
+-- what a change of the spot's head says
+pub said-changed : {X : Type 0} (find_in : Changes → Option X) (spot : Spot) (changes : Changes) (entry : LogEntry)
+    → changes_in entry ≡ Some changes → is_head changes.head spot ≡ true → said find_in spot entry ≡ find_in changes
+said-changed find_in spot changes entry is here = rw (is, here) refl
 
 -- the newest of a log with one more entry
 pub newest-pushed : {X : Type 0} (find_in : Changes → Option X) (spot : Spot) (log : List LogEntry) (entry : LogEntry)
@@ -114,6 +98,10 @@ newest-clone find_in from head before after pass =
     let here : is_head head (head_spot head) ≡ true = rw ((Decides-eqb head head).1 refl) refl in
     newest-at find_in (head_spot head) before after (Clone from head) pass ∙ rw here refl
 
+by_space : {P : Type 0} (b : Bool) → (b ≡ true → P) → (b ≡ false → P) → P
+by_space true yes_case no_case = yes_case refl
+by_space false yes_case no_case = no_case refl
+
 -- a change of another head says nothing of a spot
 said_nothing : {X : Type 0} (find_in : Changes → Option X) (spot : Spot) (found : Option Changes) (changes : Changes) → found ≡ Some changes
     → is_head changes.head spot ≡ false
@@ -138,6 +126,37 @@ pub newest-other : {X : Type 0} (find_in : Changes → Option X) (spot : Spot) (
 newest-other find_in spot log entry changes is other =
     newest-pushed find_in spot log entry
     ∙ rw (said_nothing find_in spot (changes_in entry) changes is other, changes_stay spot entry changes is) refl
+
+-- a change that finds nothing says nothing
+said_not : {X : Type 0} (find_in : Changes → Option X) (spot : Spot) (found : Option Changes) (changes : Changes) → found ≡ Some changes
+    → find_in changes ≡ None
+    → option_and_then (λ changes. if is_head changes.head spot then find_in changes else None) found ≡ None
+said_not find_in spot found changes is none =
+    by_space (is_head changes.head spot) (λ here. rw (is, here) none) (λ other. rw (is, other) refl)
+
+pub newest-unsaid : {X : Type 0} (find_in : Changes → Option X) (spot : Spot) (log : List LogEntry) (entry : LogEntry) (changes : Changes)
+    → changes_in entry ≡ Some changes → find_in changes ≡ None
+    → newest find_in spot (reverse (log ++ entry ∷ [])) ≡ newest find_in spot (reverse log)
+newest-unsaid find_in spot log entry changes is none =
+    newest-pushed find_in spot log entry
+    ∙ rw (said_not find_in spot (changes_in entry) changes is none, changes_stay spot entry changes is) refl
+
+-- a hole, by the length alone
+hole-said : (record_size object index : ℕ) (changes : Changes) (length_now : Option ℕ)
+    → length_said object changes ≡ Some length_now → is_past record_size index length_now ≡ true → ref_listed object index changes ≡ None
+    → ref_in record_size object index changes ≡ Some None
+hole-said record_size object index changes length_now is past none = rw (none, is, past) refl
+
+pub hole-behind : (record_size : ℕ) (before after : List LogEntry) (entry : LogEntry) (changes : Changes) (object index : ℕ)
+    (length_now : Option ℕ) → changes_in entry ≡ Some changes → length_said object changes ≡ Some length_now
+    → is_past record_size index length_now ≡ true → ref_listed object index changes ≡ None
+    → All (Passes (ref_in record_size object index) (head_spot changes.head)) after
+    → option_flatten (newest (ref_in record_size object index) (head_spot changes.head) (reverse (before ++ entry ∷ after))) ≡ None
+hole-behind record_size before after entry changes object index length_now is length_is past none pass =
+    let here : is_head changes.head (head_spot changes.head) ≡ true = rw ((Decides-eqb changes.head changes.head).1 refl) refl in
+    newest-said (ref_in record_size object index) (head_spot changes.head) before after entry None
+    (said-changed (ref_in record_size object index) (head_spot changes.head) changes entry is here
+    ∙ hole-said record_size object index changes length_now length_is past none) pass
 
 -- nothing is said by entries that all pass
 pub newest-none : {X : Type 0} (find_in : Changes → Option X) (spot : Spot) (log : List LogEntry) → All (Passes find_in spot) log

@@ -22,12 +22,18 @@ new_place family head =
 abbrev pub with_entry : LogEntry → FamilyState → FamilyState
 with_entry entry family = record family { log = family.log ++ entry ∷ [] }
 
--- the heads, of which one has this table as its own; the guid of a head's table is 0
-abbrev pub with_table : ℕ → Table → List Head → List Head
-with_table id table [] = []
-with_table id table (head ∷ heads) =
-    if head.id == id then record head { table = record table { guid = 0 } } ∷ heads
-    else head ∷ with_table id table heads
+-- the heads, of which the one of this dataset is changed so
+abbrev pub with_head : (id : ℕ) → (Head → Head) → List Head → List Head
+with_head id change [] = []
+with_head id change (head ∷ heads) =
+    if head.id == id then change head ∷ heads else head ∷ with_head id change heads
+
+-- a head with this table as its own; the guid of a head's table is 0
+abbrev pub given : Table → Head → Head
+given table head = record head { table = record table { guid = 0 } }
+
+abbrev pub with_table : (id : ℕ) → Table → List Head → List Head
+with_table id table heads = with_head id (given table) heads
 
 abbrev pub with_change : ℕ → HeadChange → FamilyState → FamilyState
 with_change head change family =

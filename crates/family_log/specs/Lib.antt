@@ -6,4 +6,5 @@ pub mod Reading
 pub mod Model
 pub mod Calls
 pub mod Honest
+pub mod Snapshots
 pub mod Lending

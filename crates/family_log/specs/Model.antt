@@ -1,6 +1,6 @@
 -- What contracts see of a family, and what its type keeps.
 use Rattle.std.specs.Prelude.{ℕ, ◌≡◌, ◌≢◌, ◌==◌, ◌≤◌, Bool, List, [], ◌∷◌, length, Option, Some, None}
-use Rattle.std.specs.List.{All, AllPairs, find, position, slice_get}
+use Rattle.std.specs.List.{All, AllPairs, find, position, slice_get, sum_by}
 use Rattle.std.specs.Option.{option_and_then}
 use Rattle.std.specs.Str.{bytes_eq}
 use Rattle.salt_rotation.specs.SaltState.{SaltState}
@@ -10,6 +10,7 @@ use Rattle.family_log.specs.declared.entry.Spot.{Spot}
 use Rattle.family_log.specs.declared.entry.LogEntry.{LogEntry}
 use Rattle.family_log.specs.declared.entry.LogEntry.TheVariants.{Make}
 use Rattle.family_log.specs.declared.head.Head.{Head}
+use Rattle.family_log.specs.declared.head.TheConstants.{MAX_SNAPSHOTS}
 use Rattle.family_log.specs.Tables.{IsRecordSize, IsTable, fresh_table}
 
 -- A family: the guid of its key, its record size, how many entries its log may have, its heads, its log, its
@@ -42,6 +43,10 @@ table_in (Some part) head = snap_table part head
 abbrev pub table_of : Spot → List Head → Option Table
 table_of spot heads = option_and_then (λ head. table_in spot.snap head) (head_of spot.head heads)
 
+-- how many snapshots the heads have together
+abbrev pub snapshot_count : List Head → ℕ
+snapshot_count heads = sum_by (λ head. length head.parts) heads
+
 -- the tables of a head have this record size and their form; its own has no guid; each snapshot has one
 -- table, and no two have one name
 pub record IsHead (record_size : ℕ) (head : Head) : Type 0 where
@@ -51,7 +56,8 @@ pub record IsHead (record_size : ℕ) (head : Head) : Type 0 where
   pub paired : length head.tables ≡ length head.parts
   pub apart : AllPairs (λ earlier later. earlier ≢ later) head.parts
 
--- what the type keeps, no two heads of one dataset among it, whatever a borrower makes of salts and shelf
+-- what the type keeps, no two heads of one dataset among it and at most 64 snapshots of all heads together,
+-- whatever a borrower makes of salts and shelf
 pub record IsKept (block room : ℕ) (heads : List Head) (log : List LogEntry) : Type 0 where
   pub record_size : IsRecordSize block
   pub room_least : 1 ≤ room
@@ -59,6 +65,7 @@ pub record IsKept (block room : ℕ) (heads : List Head) (log : List LogEntry) :
   pub in_room : length log ≤ room
   pub tables : All (IsHead block) heads
   pub apart : AllPairs (λ earlier later. earlier.id ≢ later.id) heads
+  pub few_snapshots : snapshot_count heads ≤ MAX_SNAPSHOTS
 
 abbrev pub IsFamily : FamilyState → Type 0
 IsFamily family = IsKept family.block family.room family.heads family.log

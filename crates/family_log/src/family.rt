@@ -1,10 +1,14 @@
 // Families.
-ghost use Rattle.std.specs.Prelude.{◌≡◌, ◌<◌, ◌≤◌, length, IfOk, OnOk, OnErr, IfNone, IfSome, IsTrue, slice_get, [], ◌∷◌};
+ghost use Rattle.std.specs.Prelude.{◌≡◌, ◌<◌, ◌≤◌, ◌==◌, false, length, IfOk, OnOk, OnErr, IfNone, IfSome, IsSome, IsTrue, slice_get, [], ◌∷◌};
 ghost use Rattle.std.specs.Option.{option_copied, option_map};
 ghost use Rattle.std.specs.Borrow.{sem};
 
+use crate::clones::any_clone;
 use crate::entry::{HeadChange, LengthAt, LogEntry, ReadNote, Spot};
-use crate::head::{Head, copied_heads, head_of, put_table, same_snapshots, same_tables};
+use crate::head::{
+    Head, MAX_SNAPSHOTS, add_head, add_snapshot, copied_heads, head_of, put_table, remove_head,
+    remove_snapshot, same_snapshots, same_tables, snapshot_count,
+};
 use crate::last::last_ref;
 use crate::listed::Listed;
 use crate::table::Table;
@@ -58,10 +62,11 @@ impl<B: Shelf> Family<B> {
     ghost use Rattle.dataset_tree.specs.Refusal.{Gives};
     ghost use Rattle.family_log.specs.Tables.{IsRecordSize};
     ghost use Rattle.family_log.specs.Log.{head_spot, last_ref};
-    ghost use Rattle.family_log.specs.Model.{IsFamily, fresh_family, head_of, table_of};
+    ghost use Rattle.family_log.specs.Model.{IsFamily, fresh_family, head_of, snapshot_count, table_of};
+    ghost use Rattle.family_log.specs.Snapshots.{IsNewHead, clone_added, has_clone, has_snapshot, head_removed, snapshot_added, snapshot_removed};
     ghost use Rattle.family_log.specs.Noted.{noted};
     ghost use Rattle.family_log.specs.Calls.{DiffersAt, IsChangeOf, SameBefore, SamePart, new_place, with_change, with_entry};
-    ghost use Rattle.family_log.specs.Honest.{IsHonest};
+    ghost use Rattle.family_log.specs.Honest.{IsHonest, LeadsAsLogged};
     ghost use Rattle.family_log.specs.Lending.{LendsShelf, LendsSalts};
 
     /// A family with one fresh head, the dataset of this id, on a fresh shelf.
@@ -107,7 +112,8 @@ impl<B: Shelf> Family<B> {
     ///
     /// The entry is a Make, Write, Cut, Remove or Receive of this head. The table has the form of a
     /// table of the family's record size, and the objects and lengths that the log gives with the entry.
-    /// Of the table the guid isn't kept.
+    /// Of the table the guid isn't kept. The family stays on an honest shelf where the new blocks are on it
+    /// already and the trees of the table lead to what the log gives with the entry.
     ///
     /// # Errors
     ///
@@ -117,6 +123,7 @@ impl<B: Shelf> Family<B> {
         requires { IsChangeOf self.old head change }
         ensures place { Gives result (new_place self.old head) }
         ensures added { OnOk result (self.new ≡ with_change head change self.old) }
+        ensures honest { OnOk result (IsHonest self.old → LeadsAsLogged self.old head change → IsHonest self.new) }
         ensures refused { OnErr result (self.new ≡ self.old) }
     {
         let place = self.new_place(head)?;
@@ -186,9 +193,9 @@ impl<B: Shelf> Family<B> {
 
     /// The newest reference of a place of a head, as the log tells it, or None where it is a hole.
     pub fn last_of(&self, head: u32, object: u32, index: u32) -> Option<BlockRef>
-        ensures { result ≡ last_ref self.now.log (head_spot head) object index }
+        ensures { result ≡ last_ref self.now.block self.now.log (head_spot head) object index }
     {
-        last_ref(self.log.as_slice(), head, object, index)
+        last_ref(self.log.as_slice(), self.block, head, object, index)
     }
 
     /// The table of a head or of a snapshot, or None where the family has no such head or snapshot.
@@ -246,6 +253,104 @@ impl<B: Shelf> Family<B> {
             salts,
             shelf,
         })
+    }
+
+    /// Makes a snapshot of a head, and adds the entry of it to the log. The snapshot has the head's
+    /// table, with this guid. After an `Err` all is as before.
+    pub fn add_snapshot(&mut self, head: u32, part: &SnapPart, guid: u64) -> Result<(), NoMemory>
+        requires there { IsSome (head_of head self.old.heads) }
+        requires fresh { has_snapshot head part.now self.old.heads ≡ false }
+        requires few { snapshot_count self.old.heads < MAX_SNAPSHOTS }
+        requires room { length self.old.log < self.old.room }
+        ensures added { OnOk result (self.new ≡ snapshot_added head part.now guid self.old) }
+        ensures honest { OnOk result (IsHonest self.old → IsHonest self.new) }
+        ensures err { OnErr result (self.new ≡ self.old) }
+    {
+        let entry = LogEntry::Snapshot {
+            head,
+            part: part.copy()?,
+        };
+        let entries = self.log.len();
+        self.log.push(entry)?;
+        match add_snapshot(&mut self.heads, head, part, guid) {
+            Ok(()) => Ok(()),
+            Err(stop) => {
+                self.log.truncate(entries);
+                Err(stop)
+            }
+        }
+    }
+
+    /// Makes a head with the table that a spot has, and adds the entry of it to the log. The family
+    /// never had a head of this id. After an `Err` all is as before.
+    pub fn add_clone(&mut self, from: &Spot, head: u32) -> Result<(), NoMemory>
+        requires there { IsSome (table_of from.now self.old.heads) }
+        requires fresh { IsNewHead head self.old }
+        requires room { length self.old.log < self.old.room }
+        ensures added { OnOk result (self.new ≡ clone_added from.now head self.old) }
+        ensures honest { OnOk result (IsHonest self.old → IsHonest self.new) }
+        ensures err { OnErr result (self.new ≡ self.old) }
+    {
+        let Some(table) = self.table(from) else {
+            return Ok(());
+        };
+        let table = table.copy()?;
+        let entry = LogEntry::Clone {
+            from: from.copy()?,
+            head,
+        };
+        let entries = self.log.len();
+        self.log.push(entry)?;
+        match add_head(&mut self.heads, head, table) {
+            Ok(()) => Ok(()),
+            Err(stop) => {
+                self.log.truncate(entries);
+                Err(stop)
+            }
+        }
+    }
+
+    /// Takes out a head with its snapshots, if there is one. The log stays.
+    pub fn remove_head(&mut self, head: u32)
+        ensures removed { self.new ≡ head_removed head self.old }
+        ensures honest { IsHonest self.old → IsHonest self.new }
+    {
+        remove_head(&mut self.heads, head);
+    }
+
+    /// Takes out a snapshot, if there is one of this name. The log stays.
+    pub fn remove_snapshot(&mut self, head: u32, part: &SnapPart)
+        ensures removed { self.new ≡ snapshot_removed head part.now self.old }
+        ensures honest { IsHonest self.old → IsHonest self.new }
+    {
+        remove_snapshot(&mut self.heads, head, part);
+    }
+
+    /// Whether a head was cloned from the spot, and is still there.
+    pub fn has_clone(&self, spot: &Spot) -> bool
+        ensures { result ≡ has_clone spot.now self.now }
+    {
+        any_clone(self.log.as_slice(), self.heads.as_slice(), spot)
+    }
+
+    /// How many heads the family has.
+    pub fn heads(&self) -> usize
+        ensures { result ≡ length self.now.heads }
+    {
+        self.heads.len()
+    }
+
+    /// How many snapshots its heads have together, at most 64.
+    pub fn snapshots(&self) -> u32
+        ensures count { result ≡ snapshot_count self.now.heads }
+        ensures bound { result ≤ MAX_SNAPSHOTS }
+    {
+        snapshot_count(self.heads.as_slice())
+    }
+
+    /// The allocator that the family's lists have.
+    pub fn allocator(&self) -> Global {
+        *self.log.allocator()
     }
 
     /// The guid of the family's key.

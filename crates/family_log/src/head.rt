@@ -1,6 +1,6 @@
 // The heads of a family.
-ghost use Rattle.std.specs.Prelude.{◌≡◌, ◌==◌, ◌↔◌, IfOk, IsTrue};
-ghost use Rattle.std.specs.List.{position};
+ghost use Rattle.std.specs.Prelude.{◌≡◌, ◌==◌, ◌↔◌, ◌≤◌, ◌++◌, ◌∷◌, [], length, not, All, IfOk, OnOk, OnErr, IsTrue};
+ghost use Rattle.std.specs.List.{filter, position};
 ghost use Rattle.std.specs.Option.{option_copied, option_map};
 ghost use Rattle.std.specs.Str.{bytes_eq};
 
@@ -9,6 +9,11 @@ use crate::same::{Same, same_items};
 use crate::table::Table;
 use dataset_tree::{NoMemory, SnapPart};
 use std::alloc::Global;
+
+/// How many snapshots the heads of a family have together at most.
+pub const MAX_SNAPSHOTS: u32 = 64;
+
+const _: () = prove!(MAX_SNAPSHOTS == 64);
 
 /// A dataset of a family: its table, and its snapshots in the order they were made. `parts` has their
 /// names, and `tables` at the same places the tables that they keep.
@@ -23,6 +28,7 @@ pub struct Head {
 impl Head {
     ghost use Rattle.family_log.specs.Model.{snap_table, table_in};
     ghost use Rattle.family_log.specs.Calls.{snapshots_of};
+    ghost use Rattle.family_log.specs.Snapshots.{with_snapshot, without_snapshot};
 
     // The head's own table, or that of a snapshot.
     pub(crate) fn table_of(&self, snap: &Option<SnapPart>) -> Option<&Table>
@@ -51,6 +57,35 @@ impl Head {
             && same_items(self.tables.as_slice(), other.tables.as_slice())
     }
 
+    // Makes a snapshot, which has the head's own table.
+    fn add_snapshot(&mut self, part: &SnapPart, guid: u64) -> Result<(), NoMemory>
+        ensures added { OnOk result (self.new ≡ with_snapshot part.now guid self.old) }
+        ensures err { OnErr result (self.new ≡ self.old) }
+    {
+        let table = self.table.copy()?.with_guid(guid);
+        let part = part.copy()?;
+        let count = self.parts.count();
+        self.parts.push(part)?;
+        match self.tables.push(table) {
+            Ok(()) => Ok(()),
+            Err(stop) => {
+                self.parts.truncate(count);
+                Err(stop)
+            }
+        }
+    }
+
+    // Takes out the snapshot of this name, if there is one.
+    fn remove_snapshot(&mut self, part: &SnapPart)
+        requires { length self.old.tables ≡ length self.old.parts }
+        ensures { self.new ≡ without_snapshot part.now self.old }
+    {
+        if let Some(at) = part_at(self.parts.as_slice(), part) {
+            self.parts.remove(at);
+            self.tables.remove(at);
+        }
+    }
+
     // An equal head.
     pub(crate) fn copy(&self, alloc: Global) -> Result<Head, NoMemory>
         ensures { IfOk result (λ head. head ≡ self.now) }
@@ -67,8 +102,9 @@ impl Head {
     }
 }
 
-ghost use Rattle.family_log.specs.Model.{head_of};
-ghost use Rattle.family_log.specs.Calls.{snapshots_of, with_table};
+ghost use Rattle.family_log.specs.Model.{head_of, snapshot_count};
+ghost use Rattle.family_log.specs.Calls.{snapshots_of, with_head, with_table};
+ghost use Rattle.family_log.specs.Snapshots.{clone_of, with_snapshot, without_snapshot};
 
 // The place of the snapshot with this name.
 fn part_at(parts: &[SnapPart], part: &SnapPart) -> Option<usize>
@@ -91,8 +127,68 @@ pub fn put_table(heads: &mut Vec<Head>, id: u32, table: Table)
     ensures { heads.new.items ≡ with_table id table heads.old.items }
 {
     if let Some(at) = place_of(heads.as_slice(), id) {
-        heads[at].table = table.without_guid();
+        heads[at].table = table.with_guid(0);
     }
+}
+
+/// Makes a snapshot of a head. Where there is no such head nothing changes, and nothing after an `Err`.
+pub fn add_snapshot(
+    heads: &mut Vec<Head>,
+    id: u32,
+    part: &SnapPart,
+    guid: u64,
+) -> Result<(), NoMemory>
+    ensures added { OnOk result (heads.new.items ≡ with_head id (with_snapshot part.now guid) heads.old.items) }
+    ensures err { OnErr result (heads.new.items ≡ heads.old.items) }
+{
+    match place_of(heads.as_slice(), id) {
+        Some(at) => heads[at].add_snapshot(part, guid),
+        None => Ok(()),
+    }
+}
+
+/// Takes a snapshot out of a head. Where there is no such head or snapshot nothing changes.
+pub fn remove_snapshot(heads: &mut Vec<Head>, id: u32, part: &SnapPart)
+    requires { All (λ head. length head.tables ≡ length head.parts) heads.old.items }
+    ensures { heads.new.items ≡ with_head id (without_snapshot part.now) heads.old.items }
+{
+    if let Some(at) = place_of(heads.as_slice(), id) {
+        heads[at].remove_snapshot(part);
+    }
+}
+
+/// Adds a head with this table and no snapshots. After an `Err` nothing has changed.
+pub fn add_head(heads: &mut Vec<Head>, id: u32, table: Table) -> Result<(), NoMemory>
+    ensures added { OnOk result (heads.new.items ≡ heads.old.items ++ clone_of id table ∷ []) }
+    ensures err { OnErr result (heads.new.items ≡ heads.old.items) }
+{
+    let alloc = *heads.allocator();
+    heads.push(Head {
+        id,
+        table: table.with_guid(0),
+        parts: Listed::new(Vec::new(alloc)),
+        tables: Listed::new(Vec::new(alloc)),
+    })?;
+    Ok(())
+}
+
+/// Takes out the head of a dataset, if there is one.
+pub fn remove_head(heads: &mut Vec<Head>, id: u32)
+    ensures { heads.new.items ≡ filter (λ head. not (head.id == id)) heads.old.items }
+{
+    heads.retain(|head| head.id != id);
+}
+
+/// How many snapshots the heads have together.
+pub fn snapshot_count(heads: &[Head]) -> u32
+    requires { snapshot_count heads.now ≤ MAX_SNAPSHOTS }
+    ensures { result ≡ snapshot_count heads.now }
+{
+    let mut count = 0;
+    'heads: for head in heads {
+        count += head.parts.count();
+    }
+    count as u32
 }
 
 // The place of the head of a dataset.

@@ -49,12 +49,12 @@ impl Table {
         })
     }
 
-    // This table as that of a head, which has no guid.
-    pub(crate) fn without_guid(self) -> Table
-        ensures { result ≡ record self { guid = 0 } }
+    // This table with the guid of a snapshot, or with 0 as that of a head.
+    pub(crate) fn with_guid(self, guid: u64) -> Table
+        ensures { result ≡ record self { guid = guid } }
     {
         let mut table = self;
-        table.guid = 0;
+        table.guid = guid;
         table
     }
 

@@ -8,7 +8,7 @@ use Rattle.family_log.proofs.last.last_ref.Goals as goal
 
 pub returns-in-Some : goal.returns-in-Some
 returns-in-Some c =
-    let said_in = ref_in c.args.object c.args.index in
+    let said_in = ref_in c.args.block c.args.object c.args.index in
     let older = newest said_in (stood (spot_of c.entries.spot) c.index-log-at.result) (reverse (take (c.entries.at - 1) c.args.log.now)) in
     let found : newest said_in (head_spot c.args.head) (reverse c.args.log.now) ≡ Some c.in-Some.to =
     sym c.entries.invariant.1
@@ -18,7 +18,7 @@ returns-in-Some c =
 
 pub entries-preserved : goal.entries-preserved
 entries-preserved c =
-    let said_in = ref_in c.args.object c.args.index in
+    let said_in = ref_in c.args.block c.args.object c.args.index in
     let before = reverse (take (c.entries.at - 1) c.args.log.now) in
     let older = newest said_in (stood (spot_of c.entries.spot) c.index-log-at.result) before in
     let step = newest-step said_in (spot_of c.entries.spot) c.args.log.now c.entries.at c.index-log-at.result c.entries-test.true c.entries.invariant.0 c.index-log-at.is
@@ -27,4 +27,4 @@ entries-preserved c =
 
 pub returns : goal.returns
 returns c =
-    ap option_flatten (sym (newest-start (ref_in c.args.object c.args.index) (spot_of c.entries.spot) c.args.log.now c.entries.at c.entries-test.false) ∙ c.entries.invariant.1)
+    ap option_flatten (sym (newest-start (ref_in c.args.block c.args.object c.args.index) (spot_of c.entries.spot) c.args.log.now c.entries.at c.entries-test.false) ∙ c.entries.invariant.1)

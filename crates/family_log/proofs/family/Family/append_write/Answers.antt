@@ -1,7 +1,9 @@
-use Rattle.std.proofs.Common.{◌≡◌, ℕ, ◌<◌, length, Ok, sym, ap, subst, arith}
+use Rattle.std.proofs.Common.{◌≡◌, ℕ, ◌<◌, length, Ok, refl, sym, ap, subst, arith}
 use Rattle.family_log.specs.Tables.{IsTable}
 use Rattle.family_log.specs.Model.{FamilyState}
-use Rattle.family_log.specs.Calls.{new_place}
+use Rattle.family_log.specs.Calls.{new_place, with_change}
+use Rattle.family_log.specs.Honest.{IsHonest}
+use Rattle.family_log.proofs.ChangeLemmas.{IsHonest-changed}
 use Rattle.family_log.proofs.HeadLemmas.{IsKept-changed, room_left}
 use Rattle.family_log.proofs.family.Family.append_write.Goals as goal
 
@@ -16,3 +18,18 @@ invariant_of-self-2 g c =
     let is : IsTable c.self.inside.block c.args.change.table = subst P (sym (ap (λ (family : FamilyState). family.block) c.self.view_is)) c.requires.table in
     rw (c.put_table.ensures, c.in_ok-push.ensures.items)
     (IsKept-changed c.self.inside.block c.self.inside.room c.args.head c.self.inside.heads.items c.self.inside.log.items c.args.change.table c.args.change.entry c.self.invariant is left)
+
+pub returns-clause-honest : goal.returns-clause-honest
+returns-clause-honest g c = λ honest as_logged.
+    let after : FamilyState = record {
+      guid = c.self.inside.guid;
+      block = c.self.inside.block;
+      room = c.self.inside.room;
+      heads = c.put_table.new.heads.items;
+      log = c.push.new.self.items;
+      salts = c.self.inside.salts;
+      shelf = g.B.Shelf.told c.self.inside.shelf;
+    } in
+    let is : after ≡ with_change c.args.head c.args.change c.args.self.now =
+    rw (c.put_table.ensures, c.in_ok-push.ensures.items, ← c.self.view_is) refl in
+    subst IsHonest (sym is) (IsHonest-changed c.args.self.now c.args.head c.args.change honest c.requires as_logged)
