@@ -1,0 +1,156 @@
+// One block: the walk to it, and what it opens to.
+ghost use Rattle.std.specs.Prelude.{◌≡◌, ◌<◌, ◌≤◌, ◌^◌, ◌+◌, ◌==◌, length, take, Some, IfErr, IfOk, IfSome, OnOk, is_err, slice_get};
+ghost use Rattle.std.specs.Option.{option_eq, option_map};
+ghost use Rattle.shelf_store.specs.ShelfState.{HasToldSizes, counted, is_due};
+ghost use Rattle.file_blocks.specs.Objects.{Gives, IsAtBlock, Reading, block_bytes, text_at, text_of};
+
+use block_crypt::{BlockKey, MAX_BLOCK_LEN, Sealed, open_block};
+use indirect_macs::{BlockRef, MacError, ObjTree, lookup};
+use shelf_store::{Failed, Shelf};
+
+fn fails_at(index: u32) -> MacError
+    ensures { result ≡ MacError.MacFailed 0 index }
+{
+    MacError::MacFailed { level: 0, index }
+}
+
+// Whether the address of a reference names a block of its size.
+fn names_block<B: Shelf>(shelf: &B, r: &BlockRef) -> bool
+    ensures value { result ≡ option_eq ◌==◌ (slice_get (B.told shelf.now).sizes r.now.addr) (Some r.now.size) }
+    ensures sizes { HasToldSizes (B.told shelf.now) }
+{
+    shelf.size(r.addr) == Some(r.size)
+}
+
+fn read<B: Shelf>(shelf: &mut B, addr: u64, out: &mut [u8]) -> Result<(), MacError>
+    requires { slice_get (B.told shelf.old).sizes addr ≡ Some (length out.old) }
+    ensures due { is_err result ≡ is_due (B.told shelf.old).armed }
+    ensures fault { IfErr result (λ stop. stop ≡ MacError.ShelfFault) }
+    ensures after { B.told shelf.new ≡ counted (B.told shelf.old) }
+    ensures bytes { OnOk result (IfSome (B.told shelf.old).held (λ blocks. slice_get blocks addr ≡ Some out.new)) }
+{
+    match shelf.get(addr, out) {
+        Ok(()) => Ok(()),
+        Err(Failed) => Err(MacError::ShelfFault),
+    }
+}
+
+fn sealed_of(r: &BlockRef) -> Sealed
+    ensures salt { result.salt ≡ r.now.salt }
+    ensures iv { result.iv ≡ r.now.iv }
+    ensures mac { result.mac ≡ r.now.mac }
+{
+    Sealed {
+        salt: r.salt,
+        iv: r.iv,
+        mac: r.mac,
+    }
+}
+
+/// Reads and opens the block that a reference names: the block of this index of an object. `out` has
+/// the reference's size.
+///
+/// # Errors
+///
+/// `MacFailed` of level 0 where the address names no block of that size, without a call of the shelf,
+/// or where the tag differs, and `ShelfFault`. After an error `out` may have the sealed bytes, and
+/// never others than those and its own.
+pub(crate) fn open_ref<K: BlockKey, B: Shelf>(
+    key: &K,
+    shelf: &mut B,
+    r: &BlockRef,
+    index: u32,
+    out: &mut [u8],
+) -> Result<(), MacError>
+    requires fits { length out.old ≡ r.now.size }
+    requires small { r.now.size ≤ MAX_BLOCK_LEN }
+    ensures len { length out.new ≡ r.now.size }
+    ensures reading { Reading 1 (IsAtBlock 0 index) result (B.told shelf.old) (B.told shelf.new) }
+    ensures told { IfSome (B.told shelf.old).held (λ held. Gives (λ _. Some out.new)
+        (text_of (K.told key.now) held index (Some r.now)) result) }
+{
+    if !names_block(shelf, r) {
+        return Err(fails_at(index));
+    }
+    if let Err(stop) = read(shelf, r.addr, out) {
+        return Err(stop);
+    }
+    match open_block(key, &sealed_of(r), out) {
+        Ok(()) => Ok(()),
+        Err(_) => Err(fails_at(index)),
+    }
+}
+
+/// Reads and opens the block of an index of a tree into `out`, which has the record size and is then
+/// what the block stands for: what it stores, and zeros behind that. Gives how many bytes it stores,
+/// or None in a hole.
+///
+/// The nodes over the block are read and tested from the top down, and then the block, each once. It
+/// takes no memory.
+///
+/// # Errors
+///
+/// `MacFailed` with the first place over the block, from the top, that fails its test, of level 0
+/// where it is the block itself, and `ShelfFault` exactly where one of the reads is the call whose
+/// failure was armed. It is never `Full` or `NoMemory`. `out` is then no longer of use.
+pub(crate) fn read_block<K: BlockKey, B: Shelf>(
+    key: &K,
+    shelf: &mut B,
+    tree: &ObjTree,
+    index: u32,
+    block: u32,
+    out: &mut [u8],
+) -> Result<Option<u32>, MacError>
+    requires above { 1 ≤ tree.now.levels }
+    requires levels { tree.now.levels ≤ 5 }
+    requires within { index < 32 ^ tree.now.levels }
+    requires fits { length out.old ≡ block }
+    requires small { block ≤ MAX_BLOCK_LEN }
+    ensures len { length out.new ≡ block }
+    ensures reading { Reading (tree.now.levels + 1) (IsAtBlock tree.now.levels index) result
+        (B.told shelf.old) (B.told shelf.new) }
+    ensures size { IfOk result (λ stored. IfSome stored (λ size. size ≤ block)) }
+    ensures bytes { IfOk result (λ stored. out.new ≡ block_bytes block (option_map (λ size. take size out.new) stored)) }
+    ensures told { IfSome (B.told shelf.old).held (λ held. Gives (option_map (λ size. take size out.new))
+        (text_at (K.told key.now) held block tree.now index) result) }
+{
+    match lookup(tree, shelf, index, block) {
+        Ok(Some(r)) => read_ref(key, shelf, &r, index, block, out),
+        Ok(None) => {
+            out.fill(0);
+            Ok(None)
+        }
+        Err(stop) => Err(stop),
+    }
+}
+
+// Reads and opens the block that a reference names, and fills it up with zeros. A size above the
+// record size stands in no node that passes its test.
+fn read_ref<K: BlockKey, B: Shelf>(
+    key: &K,
+    shelf: &mut B,
+    r: &BlockRef,
+    index: u32,
+    block: u32,
+    out: &mut [u8],
+) -> Result<Option<u32>, MacError>
+    requires fits { length out.old ≡ block }
+    requires small { block ≤ MAX_BLOCK_LEN }
+    ensures len { length out.new ≡ block }
+    ensures reading { Reading 1 (IsAtBlock 0 index) result (B.told shelf.old) (B.told shelf.new) }
+    ensures size { IfOk result (λ stored. IfSome stored (λ size. size ≤ block)) }
+    ensures bytes { IfOk result (λ stored. out.new ≡ block_bytes block (option_map (λ size. take size out.new) stored)) }
+    ensures told { r.now.size ≤ block
+        → IfSome (B.told shelf.old).held (λ held. Gives (option_map (λ size. take size out.new))
+        (text_of (K.told key.now) held index (Some r.now)) result) }
+{
+    if r.size > block {
+        return Err(fails_at(index));
+    }
+    let size = r.size as usize;
+    if let Err(stop) = open_ref(key, shelf, r, index, &mut out[..size]) {
+        return Err(stop);
+    }
+    out[size..].fill(0);
+    Ok(Some(r.size))
+}
