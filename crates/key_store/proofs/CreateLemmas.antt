@@ -1,7 +1,7 @@
 -- A create that the state doesn't refuse.
-use Rattle.std.proofs.Common.{◌≡◌, inr, ℕ, ◌+◌, ◌<◌, ◌≤◌, Bool, true, false, not, cond, ◌&&◌, ◌||◌, nat_le, List, [], ◌∷◌, length, map, Option, Some, None, IfSome, ◌==◌, Result, Ok, Err, is_some, is_none, refl, ap, sym, ◌∙◌, subst, arith}
+use Rattle.std.proofs.Common.{◌≡◌, ℕ, ◌+◌, ◌<◌, ◌≤◌, Bool, true, false, not, cond, ◌&&◌, ◌||◌, nat_le, List, [], ◌∷◌, length, Option, Some, None, IfSome, ◌==◌, Result, Ok, Err, is_some, is_none, refl, ap, sym, ◌∙◌, subst, arith}
 use Rattle.std.proofs.lemmas.Bool.Decides.{nat_tests}
-use Rattle.std.proofs.lemmas.List.Elements.{All-nil, All-cons, recursion_from_All}
+use Rattle.std.proofs.lemmas.List.Elements.{recursion_from_All}
 use Rattle.dataset_tree.specs.declared.kinds.Kind.TheVariants.{Plain as PlainKind, Crypt}
 use Rattle.dataset_tree.specs.declared.refusal.Refusal.{Refusal}
 use Rattle.dataset_tree.specs.declared.refusal.Refusal.TheVariants.{Exists}
@@ -17,7 +17,7 @@ use Rattle.std.specs.Option.{option_and_then}
 use Rattle.key_machine.proofs.CreateLawsRows.{row_of_new}
 use Rattle.dataset_tree.specs.declared.kinds.Format.{Format}
 use Rattle.dataset_tree.specs.declared.kinds.Format.TheVariants.{Raw}
-use Rattle.std.specs.Prelude.{unwrap_or, if◌then◌else◌}
+use Rattle.std.specs.Prelude.{unwrap_or}
 use Rattle.std.specs.Result.{result_err}
 use Rattle.encryption_roots.specs.declared.command.KeyCmd.{KeyCmd}
 use Rattle.encryption_roots.specs.declared.command.KeyCmd.TheVariants as commands
@@ -27,7 +27,7 @@ use Rattle.encryption_roots.specs.Props.{KeepsIterations}
 use Rattle.encryption_roots.specs.RecordSize.{IsRecordSize}
 use Rattle.wrapped_keys.specs.Stored.{parsed_record}
 use Rattle.key_machine.specs.Plain.{Plain, Stored, Ciphers, owner_of, has_key_of, mkey}
-use Rattle.key_machine.specs.Create.{makes_root, makes_heir, makes_encrypted, is_below_encrypted, has_parent_key, parent_row, parent_key, is_passphrase, told_encrypted, create_key, new_format, new_iters, new_salt, new_suite, seeded_record, new_props, new_stored}
+use Rattle.key_machine.specs.Create.{makes_root, makes_heir, makes_encrypted, is_below_encrypted, has_parent_key, parent_row, parent_key, told_encrypted, create_key, new_format, new_iters, new_salt, new_suite, seeded_record, new_props, new_stored}
 use Rattle.key_machine.specs.Refusals.{first_refusal}
 use Rattle.key_machine.specs.Reply.{Stepped, Made}
 use Rattle.key_machine.specs.Step.{refusal_of, told, key_step}

@@ -1,5 +1,5 @@
 -- A record of a family in the place of another one, where no key is loaded, keeps a state sound.
-use Rattle.std.proofs.Common.{◌≡◌, ◌≤◌, ⊎_elim, ℕ, true, List, [], length, Some, is_some, ap, sym, ◌∙◌, subst, arith}
+use Rattle.std.proofs.Common.{◌≡◌, ◌≤◌, ⊎_elim, ℕ, true, List, [], Some, is_some, ap, sym, ◌∙◌, subst, arith}
 use Rattle.std.proofs.lemmas.Bool.{cases_eq}
 use Rattle.encryption_roots.specs.ById.{at_id, with_id}
 use Rattle.encryption_roots.proofs.ByIdLemmas.{IsRisingById-with_id, at_id-with_id, at_id-with_id_other}
@@ -9,12 +9,10 @@ use Rattle.key_machine.proofs.KeyLists.{All-with_id, at_id_is}
 use Rattle.std.specs.Prelude.{vec_capacity}
 use Rattle.std.specs.List.{All}
 use Rattle.std.proofs.lemmas.List.Elements.{All-map}
-use Rattle.dataset_tree.specs.Tree.{Datasets}
-use Rattle.encryption_roots.specs.declared.props.Props.{Props}
-use Rattle.encryption_roots.specs.Props.{KeepsIterations}
 use Rattle.encryption_roots.specs.RecordSize.{IsRecordSize}
 use Rattle.wrapped_keys.specs.Stored.{parsed_record}
 use Rattle.key_ciphers.specs.Ciphers.{ciphers}
+use Rattle.key_store.proofs.OpenedLemmas.{unloaded_opened}
 use Rattle.key_store.specs.declared.state.FamilyRecord.{FamilyRecord}
 use Rattle.key_store.specs.declared.state.KeyState.TheInside.{Inside}
 use Rattle.key_store.specs.State.{plain_of, stored_of, stored_records, IsKept}
@@ -69,25 +67,27 @@ module _ (s : Inside) (now : Plain) (view_is : plain_of s ≡ now) (kept : IsKep
   size = at_id_is (λ (entry : ℕ × Stored). IsRecordSize entry.1.block) family (stored_records s.records.items) (stored_of stored)
       (All-map (λ (entry : ℕ × Stored). IsRecordSize entry.1.block) (λ (entry : ℕ × FamilyRecord). (entry.0, stored_of entry.1)) s.records.items kept.sizes) here
 
-  pub replaced_kept : (made : Inside) → made.tree ≡ s.tree → made.roots ≡ s.roots → made.loaded.items ≡ s.loaded.items → made.records.items ≡ with_id family value s.records.items
-      → vec_capacity s.records ≤ vec_capacity made.records → vec_capacity s.loaded ≤ vec_capacity made.loaded → IsKept made
-  replaced_kept made tree_is roots_is loaded_is records_is records_room loaded_room =
+  pub replaced_kept : (made : Inside) → made ≡ record s { records = made.records } → made.records.items ≡ with_id family value s.records.items → vec_capacity s.records ≤ vec_capacity made.records → IsKept made
+  replaced_kept made same records_is records_room =
       let stored_is : stored_records made.records.items ≡ with_id family (stored_of value) (stored_records s.records.items) = ap stored_records records_is ∙ with_id-stored family value s.records.items in
-      let made_is : plain_of made ≡ record (plain_of s) { wrapped = with_id family (stored_of value) (stored_records s.records.items) } =
-      ap (λ (t : Datasets). let q : Plain = record (plain_of s) { tree = t; roots = made.roots; wrapped = stored_records made.records.items; loaded = made.loaded.items } in q) tree_is
-      ∙ ap (λ (r : List (ℕ × Props)). let q : Plain = record (plain_of s) { roots = r; wrapped = stored_records made.records.items; loaded = made.loaded.items } in q) roots_is
-      ∙ ap (λ (l : List (ℕ × List ℕ)). let q : Plain = record (plain_of s) { wrapped = stored_records made.records.items; loaded = l } in q) loaded_is
-      ∙ ap (λ (w : List (ℕ × Stored)). let q : Plain = record (plain_of s) { wrapped = w } in q) stored_is in
-      record {
+      let made_is : plain_of (record s { records = made.records }) ≡ record (plain_of s) { wrapped = with_id family (stored_of value) (stored_records s.records.items) } =
+      ap (λ (w : List (ℕ × Stored)). let q : Plain = record (plain_of s) { wrapped = w } in q) stored_is in
+      subst IsKept (sym same)
+      (record {
         sound = subst (λ (p : Plain). Sound ciphers p) (sym made_is) (replaced_sound ciphers (plain_of s) kept.sound none family (stored_of value) (ap (λ f. is_some f) here));
         records = subst (λ (records : List (ℕ × FamilyRecord)). All (λ entry. is_some (parsed_record entry.1.wrapped) ≡ true) records) (sym records_is)
             (All-with_id (λ (entry : ℕ × FamilyRecord). is_some (parsed_record entry.1.wrapped) ≡ true) family value s.records.items kept.records form);
         sizes = subst (λ (records : List (ℕ × FamilyRecord)). All (λ entry. IsRecordSize entry.1.block) records) (sym records_is)
             (All-with_id (λ (entry : ℕ × FamilyRecord). IsRecordSize entry.1.block) family value s.records.items kept.sizes size);
-        props = subst (λ (roots : List (ℕ × Props)). All (λ entry. KeepsIterations entry.1) roots) (sym roots_is) kept.props;
+        props = kept.props;
+        by_family = kept.by_family;
+        opened = unloaded_opened ciphers (plain_of s) (stored_records made.records.items) s.opened.items kept.sound none kept.opened;
         room = record {
-          datasets = subst (λ (t : Datasets). length t.rows ≤ 256) (sym tree_is) kept.room.datasets;
+          datasets = kept.room.datasets;
           records = omega (arith, kept.room.records, records_room);
-          loaded = omega (arith, kept.room.loaded, loaded_room);
+          loaded = kept.room.loaded;
+          mapped = kept.room.mapped;
+          mounted = kept.room.mounted;
+          opened = kept.room.opened;
         };
-      }
+      })

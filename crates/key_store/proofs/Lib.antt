@@ -4,3 +4,11 @@ pub mod RoomLemmas
 pub mod CreateLemmas
 pub mod PlanLemmas
 pub mod DamageLemmas
+pub mod MappingLemmas
+pub mod SlotLemmas
+pub mod OpenedLemmas
+pub mod MountLemmas
+pub mod UnloadLemmas
+pub mod SlotLawLemmas
+pub mod CountLemmas
+pub mod AgreesLemmas

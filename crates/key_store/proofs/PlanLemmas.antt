@@ -1,5 +1,5 @@
 -- A plan that is of a sound state makes one whose records and roots are in form, as those before it.
-use Rattle.std.proofs.Common.{◌≡◌, ℕ, ◌≤◌, Bool, true, false, cond, not, ◌==◌, nat_lt, ◌||◌, List, [], ◌∷◌, length, get_or, map, Option, Some, None, IfSome, Result, Ok, Err, is_some, refl, ap, sym, ◌∙◌, subst, arith}
+use Rattle.std.proofs.Common.{◌≡◌, ℕ, ◌≤◌, Bool, true, false, cond, not, ◌==◌, List, [], ◌∷◌, length, get_or, map, Option, Some, None, IfSome, Result, Ok, Err, is_some, refl, ap, sym, ◌∙◌, subst, arith}
 use Rattle.std.proofs.lemmas.Bool.Decides.{nat_tests}
 use Rattle.std.proofs.lemmas.List.{get_or-map, length-map}
 use Rattle.std.proofs.lemmas.List.Elements.{All-map}
@@ -16,14 +16,18 @@ use Rattle.encryption_roots.specs.declared.command.KeyCmd.TheVariants as command
 use Rattle.encryption_roots.specs.declared.kit.LineKit.{LineKit}
 use Rattle.encryption_roots.specs.declared.props.Options.{Options}
 use Rattle.encryption_roots.specs.declared.props.Props.{Props}
-use Rattle.encryption_roots.specs.ById.{at_id, with_id, without_id}
+use Rattle.encryption_roots.specs.Owners.{family}
+use Rattle.encryption_roots.specs.ById.{at_id, IsRisingById}
 use Rattle.encryption_roots.specs.Props.{KeepsIterations, KeepsIterationsOf}
+use Rattle.key_machine.proofs.RekeyLaws.{change_keeps_masters, inherit_keeps_masters}
+use Rattle.wrapped_keys.specs.Values.{MasterValue}
+use Rattle.key_store.proofs.OpenedLemmas.{AreOpened, opened_same, mapped_of}
 use Rattle.key_machine.specs.declared.view.ChangePlan.{ChangePlan}
 use Rattle.key_machine.specs.Change.{change_cases, changed_format, changed_iters, changed_salt, changed_props, kept_iters, told_changed, told_change, change_done}
 use Rattle.key_machine.specs.Create.{is_passphrase, are_bad_iterations}
 use Rattle.key_machine.specs.Fair.{AreSound, IsFair, AllOpen}
 use Rattle.key_machine.specs.Inherit.{inherit_done}
-use Rattle.key_machine.specs.Plain.{Plain, Stored, Ciphers, is_same}
+use Rattle.key_machine.specs.Plain.{Plain, Stored, Ciphers, is_same, has_key, mkey}
 use Rattle.key_machine.specs.Plan.{set_id, planned, IsRekeying, IsPlanned}
 use Rattle.key_machine.specs.Rekey.{old_key, old_wrong, told_anew, with_record, with_records}
 use Rattle.key_machine.specs.Reply.{Stepped}
@@ -223,6 +227,30 @@ module _ (c : Ciphers) (fit : AreSound c) (p : Plain) (plan : ChangePlan) (is : 
       by_command PropsKept (λ name opts load_first accepted. change_props_kept c p name opts load_first is.kit accepted.state all (target p (commands.Change name opts load_first)))
       (λ name load_first accepted. inherit_props_kept p (told c p (commands.Inherit name load_first) is.kit) all (target p (commands.Inherit name load_first)))
 
+  -- a family's master key is what it was, where its owner's key was loaded
+  masters_kept : (dataset : ℕ) → has_key p dataset ≡ true → mkey c (planned p plan) (family p.tree.rows dataset) ≡ mkey c p (family p.tree.rows dataset)
+  masters_kept dataset has = subst (λ (q : Plain). mkey c q (family p.tree.rows dataset) ≡ mkey c p (family p.tree.rows dataset)) is.state (by is.command is.rekeying is.accepted fair) where
+    by : (command : KeyCmd) → IsRekeying command → IsAccepted p command (told c p command is.kit) → IsFair c p command (told c p command is.kit)
+        → mkey c (key_step p command (told c p command is.kit)).state (family p.tree.rows dataset) ≡ mkey c p (family p.tree.rows dataset)
+    by (commands.Create name opts) rekeying accepted given = absurd rekeying
+    by (commands.Load name check_only place) rekeying accepted given = absurd rekeying
+    by (commands.Unload name) rekeying accepted given = absurd rekeying
+    by (commands.Change name opts load_first) rekeying accepted given = change_keeps_masters c p name opts load_first (told c p (commands.Change name opts load_first) is.kit) dataset sound given accepted has
+    by (commands.Inherit name load_first) rekeying accepted given = inherit_keeps_masters c p name load_first (told c p (commands.Inherit name load_first) is.kit) dataset sound given accepted has
+    by (commands.Mount name) rekeying accepted given = absurd rekeying
+    by (commands.Unmount name) rekeying accepted given = absurd rekeying
+    by (commands.Get name prop) rekeying accepted given = absurd rekeying
+    by (commands.Clone from name) rekeying accepted given = absurd rekeying
+    by (commands.Receive name props wrapped block) rekeying accepted given = absurd rekeying
+    by (commands.Destroy name snaps) rekeying accepted given = absurd rekeying
+
+  pub planned_opened : (opened : List (ℕ × MasterValue)) → AreOpened c p opened → AreOpened c (planned p plan) opened
+  planned_opened opened are =
+      opened_same c p (planned p plan) opened (λ first. refl)
+      (λ first on.
+      let one = mapped_of (λ mapping. has_key p mapping.0 ≡ true) p first sound.mappings.keys on in
+      subst (λ n. mkey c (planned p plan) n ≡ mkey c p n) one.2 (masters_kept one.0.0 one.1)) are
+
 -- ---- a plan that is carried out
 
 module _ (s : Inside) (now : Plain) (plan : ChangePlan) (view_is : plain_of s ≡ now) (kept : IsKept s) (given : IsPlanned ciphers now plan) where
@@ -243,13 +271,15 @@ module _ (s : Inside) (now : Plain) (plan : ChangePlan) (view_is : plain_of s �
 
   module _ (made : Inside) (tree_is : made.tree ≡ s.tree) (roots_is : made.roots ≡ set_id plan.root plan.props s.roots)
       (records_is : made.records.items ≡ map (λ entry. with_written plan.wrapped.items entry) s.records.items)
-      (loaded_is : made.loaded.items ≡ set_id plan.root plan.key s.loaded.items) where
+      (loaded_is : made.loaded.items ≡ set_id plan.root plan.key s.loaded.items)
+      (same : made ≡ record s { tree = made.tree; roots = made.roots; records = made.records; loaded = made.loaded }) where
     stored_is : stored_records made.records.items ≡ after.wrapped
     stored_is = ap stored_records records_is ∙ stored_written plan.wrapped.items s.records.items
 
     made_is : plain_of made ≡ after
     made_is =
-        ap (λ (t : Datasets). let q : Plain = record after { tree = t; roots = made.roots; wrapped = stored_records made.records.items; loaded = made.loaded.items } in q) tree_is
+        ap plain_of same
+        ∙ ap (λ (t : Datasets). let q : Plain = record after { tree = t; roots = made.roots; wrapped = stored_records made.records.items; loaded = made.loaded.items } in q) tree_is
         ∙ ap (λ (r : List (ℕ × Props)). let q : Plain = record after { roots = r; wrapped = stored_records made.records.items; loaded = made.loaded.items } in q) roots_is
         ∙ ap (λ (w : List (ℕ × Stored)). let q : Plain = record after { wrapped = w; loaded = made.loaded.items } in q) stored_is
         ∙ ap (λ (l : List (ℕ × List ℕ)). let q : Plain = record after { loaded = l } in q) loaded_is
@@ -270,9 +300,16 @@ module _ (s : Inside) (now : Plain) (plan : ChangePlan) (view_is : plain_of s �
           records = all_shown form made.records.items (subst (λ (stored : List (ℕ × Stored)). All (λ entry. form entry.1.wrapped) stored) (sym stored_is) in_form);
           sizes = subst (λ (records : List (ℕ × FamilyRecord)). All (λ entry. IsRecordSize entry.1.block) records) (sym records_is) sizes;
           props = subst (λ (roots : List (ℕ × Props)). All (λ entry. KeepsIterations entry.1) roots) (sym roots_is) (planned_props ciphers ciphers_sound (plain_of s) plan is_planned kept.sound kept.props);
+          by_family = subst (λ (entries : List (ℕ × MasterValue)). IsRisingById entries) (sym (ap (λ (i : Inside). i.opened.items) same)) kept.by_family;
+          opened = subst (λ (p : Plain). AreOpened ciphers p made.opened.items) (sym made_is)
+              (subst (λ (entries : List (ℕ × MasterValue)). AreOpened ciphers after entries) (sym (ap (λ (i : Inside). i.opened.items) same))
+              (planned_opened ciphers ciphers_sound (plain_of s) plan is_planned kept.sound s.opened.items kept.opened));
           room = record {
             datasets = subst (λ (t : Datasets). length t.rows ≤ 256) (sym tree_is) kept.room.datasets;
             records = omega (arith, kept.room.records, records_room);
             loaded = omega (arith, kept.room.loaded, loaded_room);
+            mapped = subst (λ (i : Inside). 256 ≤ vec_capacity i.mapped) (sym same) kept.room.mapped;
+            mounted = subst (λ (i : Inside). 256 ≤ vec_capacity i.mounted) (sym same) kept.room.mounted;
+            opened = subst (λ (i : Inside). 32 ≤ vec_capacity i.opened) (sym same) kept.room.opened;
           };
         }

@@ -1,5 +1,5 @@
 -- There are no more roots and loaded keys than datasets.
-use Rattle.std.proofs.Common.{◌≡◌, ◌∙◌, ◌+◌, ◌⊎◌, ⊎_elim, ℕ, suc, ◌<◌, ◌≤◌, true, false, cond, nat_lt, ◌==◌, List, [], ◌∷◌, length, get_or, Some, None, is_some, is_err, Ok, Err, Result, OnOk, OnErr, ap, arith}
+use Rattle.std.proofs.Common.{◌≡◌, ◌∙◌, ◌+◌, ◌⊎◌, ⊎_elim, ℕ, suc, ◌<◌, ◌≤◌, true, false, nat_lt, ◌==◌, List, [], ◌∷◌, length, get_or, Some, None, is_some, is_err, Ok, Err, Result, OnOk, OnErr, ap, subst, arith}
 use Rattle.std.proofs.lemmas.Bool.{cases_Bool}
 use Rattle.std.proofs.lemmas.Bool.Decides.{nat_tests}
 use Rattle.std.proofs.lemmas.List.{length_push}
@@ -12,6 +12,8 @@ use Rattle.encryption_roots.specs.ById.{at_id, with_id}
 use Rattle.encryption_roots.proofs.ByIdLemmas.{Rises, rises}
 use Rattle.key_machine.specs.Plain.{Plain, Ciphers, is_root}
 use Rattle.key_machine.specs.Sound.{Sound, IsEncrypted}
+use Rattle.encryption_roots.specs.Owners.{family}
+use Rattle.key_machine.proofs.DestroyLaws.{family_first}
 use Rattle.key_machine.proofs.KeyLists.{each_found}
 
 pub on_err : {T E : Type 0} (r : Result T E) (P : Type 0) → OnErr r P → is_err r ≡ true → P
@@ -103,3 +105,22 @@ module _ (c : Ciphers) (p : Plain) (sound : Sound c p) where
   loaded_fit =
       fewer p.tree.rows p.loaded (rows_rise p.tree.rows sound.tree.tree.rising) (rises p.loaded sound.keys.loaded)
       (recursion_from_All (λ entry. IsThere p.tree.rows entry.0) p.loaded (λ k d within. there (get_or p.loaded k d).0 (sound.keys.roots k d within)))
+
+  is_there : (id : ℕ) → IsEncrypted p id → IsThere p.tree.rows id
+  is_there id encrypted = ap (λ found. is_some found) encrypted.1
+
+  pub mapped_fit : length p.mapped ≤ length p.tree.rows
+  mapped_fit =
+      fewer p.tree.rows p.mapped (rows_rise p.tree.rows sound.tree.tree.rising) (rises p.mapped sound.mappings.mapped)
+      (recursion_from_All (λ entry. IsThere p.tree.rows entry.0) p.mapped (λ k d within. is_there (get_or p.mapped k d).0 (sound.mappings.encrypted k d within)))
+
+  -- a record is that of its family's first dataset
+  pub records_fit : length p.wrapped ≤ length p.tree.rows
+  records_fit =
+      let found : All (λ entry. at_id entry.0 p.wrapped ≡ Some entry.1) p.wrapped = each_found p.wrapped sound.tree.records in
+      fewer p.tree.rows p.wrapped (rows_rise p.tree.rows sound.tree.tree.rising) (rises p.wrapped sound.tree.records)
+      (recursion_from_All (λ entry. IsThere p.tree.rows entry.0) p.wrapped
+      (λ k d within.
+      let id : ℕ = (get_or p.wrapped k d).0 in
+      let member : (dataset : ℕ) × IsEncrypted p dataset × (family p.tree.rows dataset ≡ id) = (sound.tree.families id).0 (ap (λ at. is_some at) (found k d within)) in
+      is_there id (subst (λ (n : ℕ). IsEncrypted p n) member.2 (family_first p sound.tree member.0 member.1).0)))

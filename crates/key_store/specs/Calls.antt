@@ -3,7 +3,7 @@ use Rattle.std.specs.Prelude.{◌≡◌, ℕ, Bool, not, ◌&&◌, is_some, List
 use Rattle.std.specs.declared.option.Option.{Option}
 use Rattle.std.specs.declared.option.Option.TheVariants.{Some, None}
 use Rattle.dataset_tree.specs.declared.refusal.Refusal.{Refusal as Why}
-use Rattle.dataset_tree.specs.declared.refusal.Refusal.TheVariants.{WrongKey}
+use Rattle.dataset_tree.specs.declared.refusal.Refusal.TheVariants.{WrongKey, Busy}
 use Rattle.dataset_tree.specs.declared.refusal.Stop.{Stop}
 use Rattle.dataset_tree.specs.declared.refusal.Stop.TheVariants as stops
 use Rattle.encryption_roots.specs.declared.command.KeyCmd.{KeyCmd}
@@ -11,6 +11,7 @@ use Rattle.key_machine.specs.Plain.{Plain, owner_of, is_same}
 use Rattle.key_machine.specs.Reply.{Reply, Done, Made, Refused}
 use Rattle.key_machine.specs.Step.{refusal_of, wanted}
 use Rattle.key_machine.specs.Told.{Wanted, Told}
+use Rattle.key_machine.specs.Unload.{InUse}
 use Rattle.key_store.specs.declared.needs.Needs.{Needs}
 use Rattle.key_store.specs.declared.state.FamilyRecord.{FamilyRecord}
 use Rattle.key_ciphers.specs.Ciphers.{ciphers}
@@ -54,6 +55,15 @@ AnswersMade (Err stops.NoMemory) reply = Unit {0}
 abbrev pub AnswersUnloaded : {T : Type 0} → Result T Why → Reply → Type 0
 AnswersUnloaded (Ok _) reply = reply ≡ Done
 AnswersUnloaded (Err why) reply = reply ≡ Refused why
+
+-- the mapping that the closes of a call found in use, by its answer
+abbrev pub found_as : Why → Option InUse
+found_as (Busy dataset count) = Some (record { dataset = dataset; count = count })
+found_as _ = None
+
+abbrev pub found_by : {T : Type 0} → Result T Why → Option InUse
+found_by (Ok _) = None
+found_by (Err why) = found_as why
 
 -- the state after a call: that of the step, and where memory was wanting that of before
 abbrev pub state_after : {T : Type 0} → Result T Stop → (before after : Plain) → Plain

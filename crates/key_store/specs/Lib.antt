@@ -1,3 +1,5 @@
 pub mod State
 pub mod Calls
 pub mod NewRoot
+pub mod Agrees
+pub mod Counts

@@ -1,6 +1,5 @@
 -- A new encryption root and a new heir, as the material of their command tells them.
 use Rattle.std.specs.Prelude.{◌≡◌, ℕ, ◌+◌, List, ◌∷◌, [], true, is_some, Result, Ok, Err}
-use Rattle.std.specs.declared.option.Option.{Option}
 use Rattle.std.specs.declared.option.Option.TheVariants.{Some, None}
 use Rattle.dataset_tree.specs.declared.refusal.Refusal.{Refusal as Why}
 use Rattle.dataset_tree.specs.declared.refusal.Stop.{Stop}

@@ -275,7 +275,7 @@ fn add_free(tree: &mut Tree, name: &SetName, kind: Kind) -> Result<u32, NoMemory
 }
 
 /// Sets the value at this id, for which there is room.
-fn put_with_room<X: Drop>(entries: &mut Vec<(u32, X)>, id: u32, value: X)
+pub(crate) fn put_with_room<X: Drop>(entries: &mut Vec<(u32, X)>, id: u32, value: X)
     requires rising { IsRisingById entries.old.items }
     requires room { length entries.old.items < vec_capacity entries.old }
     ensures put { entries.new.items ≡ with_id id value entries.old.items }

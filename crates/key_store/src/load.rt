@@ -1,21 +1,17 @@
-// Loads and unloads.
-ghost use Rattle.std.specs.Prelude.{◌≡◌, ℕ, Option, is_some, Some, OnOk, OnErr};
+// Loads.
+ghost use Rattle.std.specs.Prelude.{◌≡◌, ℕ, Option, is_some, Some, OnErr};
 ghost use Rattle.std.specs.List.{find};
 ghost use Rattle.std.specs.Option.{option_copied};
-ghost use Rattle.dataset_tree.specs.Tree.{id_named};
-ghost use Rattle.encryption_roots.specs.ById.{without_id};
 ghost use Rattle.encryption_roots.specs.declared.props.Location.{Location as Place};
 ghost use Rattle.encryption_roots.specs.declared.command.KeyCmd.TheVariants as commands;
 ghost use Rattle.key_machine.specs.Plain.{owned, owner_of, is_same};
 ghost use Rattle.key_machine.specs.Load.{first_wrong, told_load_of};
-ghost use Rattle.key_machine.specs.Step.{key_step};
-ghost use Rattle.key_machine.specs.Told.{nothing_told};
 ghost use Rattle.key_ciphers.specs.Ciphers.{ciphers};
-ghost use Rattle.key_store.specs.Calls.{stepped, state_after, AnswersDone, AnswersUnloaded, key_told, is_wrong};
+ghost use Rattle.key_store.specs.Calls.{stepped, state_after, AnswersDone, key_told, is_wrong};
 
 use crate::state::{FamilyRecord, KeyState};
 use dataset_tree::{Refusal, SetName, Stop};
-use encryption_roots::{LineKit, Props, owner_of, put_at_id, remove_at_id};
+use encryption_roots::{LineKit, Props, put_at_id};
 use key_ciphers::{fetched_key, opened};
 
 impl KeyState {
@@ -81,31 +77,5 @@ impl KeyState {
     {
         records.iter().find(|entry| self.owns(root, entry.0)
             && opened(&entry.1.wrapped, key).is_none())
-    }
-
-    /// Whether the root owns the family's record.
-    fn owns(&self, root: u32, family: u32) -> bool
-        ensures { result ≡ is_same root (owner_of self.now family) }
-    {
-        owner_of(&self.tree, &self.roots, family) == Some(root)
-    }
-
-    /// Drops the loaded key of a root, and changes nothing else.
-    ///
-    /// # Errors
-    /// `NoSuch`, `NotEncrypted`, `NotRoot`, and `KeyUnavailable` where the key isn't loaded. Then all is as before.
-    pub fn unload(&mut self, name: &SetName) -> Result<(), Refusal>
-        ensures reply { AnswersUnloaded result (key_step self.old (commands.Unload name.now) nothing_told).reply }
-        ensures state { self.new ≡ (key_step self.old (commands.Unload name.now) nothing_told).state }
-        ensures key_alone { OnOk result ((root : ℕ) → id_named name.now self.old.tree.rows ≡ Some root
-            → self.new ≡ record self.old { loaded = without_id root self.old.loaded }) }
-        ensures unchanged { OnErr result (self.new ≡ self.old) }
-    {
-        let root = match self.unload_root(name) {
-            Ok(root) => root,
-            Err(why) => return Err(why),
-        };
-        remove_at_id(&mut self.loaded, root);
-        Ok(())
     }
 }

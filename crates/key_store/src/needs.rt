@@ -22,10 +22,10 @@ use key_ciphers::{
 };
 
 /// The most datasets of a host.
-const MAX_DATASETS: usize = 256;
+pub(crate) const MAX_DATASETS: usize = 256;
 
 /// The last id that a dataset has.
-const MAX_ID: u32 = u32::MAX;
+pub(crate) const MAX_ID: u32 = u32::MAX;
 
 /// A command that isn't built yet is refused, whatever the state.
 const NOT_BUILT: Refusal = Refusal::BadOptions;
@@ -94,11 +94,11 @@ impl KeyState {
                 load_first,
             } => change_refusal(self, name, opts, *load_first),
             KeyCmd::Inherit { name, load_first } => inherit_refusal(self, name, *load_first),
-            KeyCmd::Mount { .. }
-            | KeyCmd::Unmount { .. }
-            | KeyCmd::Clone { .. }
-            | KeyCmd::Receive { .. }
-            | KeyCmd::Destroy { .. } => Some(NOT_BUILT),
+            KeyCmd::Mount { name } => self.mount_id(name).err(),
+            KeyCmd::Unmount { name } => self.unmount_id(name).err(),
+            KeyCmd::Clone { from, name } => self.clone_refusal(from, name),
+            KeyCmd::Destroy { name, snaps } => self.destroy_refusal(name, *snaps),
+            KeyCmd::Receive { .. } => Some(NOT_BUILT),
         }
     }
 

@@ -1,20 +1,33 @@
 // The state of a keystore.
-ghost use Rattle.std.specs.Prelude.{◌≡◌, IfOk};
+ghost use Rattle.std.specs.Prelude.{◌≡◌, IfOk, is_some};
 ghost use Rattle.std.specs.List.{All};
 ghost use Rattle.encryption_roots.specs.Props.{KeepsIterations};
+ghost use Rattle.std.specs.Option.{option_copied, option_map};
+ghost use Rattle.encryption_roots.specs.ById.{at_id};
+ghost use Rattle.key_machine.specs.Counts.{is_opened};
 ghost use Rattle.key_machine.specs.Plain.{no_keys, has_key};
+ghost use Rattle.key_ciphers.specs.Ciphers.{master_of};
+ghost use Rattle.key_store.specs.State.{opened_key};
 
+use crate::slots::fresh_gens;
 use dataset_tree::{NoMemory, RecordBytes, Tree};
-use encryption_roots::Roots;
+use encryption_roots::{Roots, at_id};
 use key_ciphers::has_key;
 use std::alloc::Global;
 use std::marker::Model;
+use wrapped_keys::MasterKey;
 
 /// The most families of a host.
 pub(crate) const MAX_FAMILIES: usize = 32;
 
 /// There is always room for so many loaded keys, which is as many as a tree has datasets.
 const LOADED_ROOM: usize = 256;
+
+/// There is always room for so many mappings, which is as many as a tree has datasets.
+const MAPPED_ROOM: usize = 256;
+
+/// The slots on which datasets are mapped.
+pub(crate) const SLOTS: u32 = 256;
 
 /// A family's key record as it is stored, and its record size in bytes.
 #[derive(Clone, Copy, Debug)]
@@ -31,6 +44,13 @@ pub struct KeyState {
     // The records by family, and the wrapping keys by root, both in rising order of id.
     pub(crate) records: Vec<(u32, FamilyRecord)>,
     pub(crate) loaded: Vec<(u32, [u8; 32])>,
+    // The last generation of each slot; the slots of the mapped datasets, and the mounted datasets, both in
+    // rising order of id.
+    pub(crate) gens: Vec<u32>,
+    pub(crate) mapped: Vec<(u32, u32)>,
+    pub(crate) mounted: Vec<u32>,
+    // The master keys of the families with a mapped dataset, in rising order of id.
+    pub(crate) opened: Vec<(u32, MasterKey)>,
     pub(crate) alloc: Global,
 }
 
@@ -47,7 +67,8 @@ impl Model for KeyState {
 }
 
 impl KeyState {
-    /// A host that holds nothing, with room for 256 roots and loaded keys and for 32 records.
+    /// A host that holds nothing, with room for 256 roots, loaded keys and mappings and for 32 records and
+    /// opened master keys.
     pub fn new(alloc: Global) -> Result<KeyState, NoMemory>
         ensures { IfOk result (λ state. state ≡ no_keys) }
     {
@@ -55,11 +76,19 @@ impl KeyState {
         let roots = Roots::new(alloc)?;
         let records = Vec::with_capacity(alloc, MAX_FAMILIES)?;
         let loaded = Vec::with_capacity(alloc, LOADED_ROOM)?;
+        let gens = fresh_gens(alloc)?;
+        let mapped = Vec::with_capacity(alloc, MAPPED_ROOM)?;
+        let mounted = Vec::with_capacity(alloc, MAPPED_ROOM)?;
+        let opened = Vec::with_capacity(alloc, MAX_FAMILIES)?;
         Ok(KeyState {
             tree,
             roots,
             records,
             loaded,
+            gens,
+            mapped,
+            mounted,
+            opened,
             alloc,
         })
     }
@@ -84,5 +113,14 @@ impl KeyState {
         ensures { result ≡ has_key self.now id }
     {
         has_key(self, id)
+    }
+
+    /// The master key of a family, opened exactly while a dataset of it is mapped: the key to which the family's record
+    /// opens under the loaded key of its owner.
+    pub fn opened(&self, family: u32) -> Option<&MasterKey>
+        ensures key { option_map master_of (option_copied result) ≡ opened_key self.now family }
+        ensures mapped { is_some (option_copied result) ≡ is_opened self.now family }
+    {
+        at_id(self.opened.as_slice(), family)
     }
 }

@@ -1,12 +1,16 @@
 // The commands of the keystore, by calls: what no script shows.
-ghost use Rattle.std.specs.Prelude.{◌≡◌, IfOk, IfSome, is_some};
+ghost use Rattle.std.specs.Prelude.{◌≡◌, true, IfOk, IfSome, is_some};
+ghost use Rattle.key_machine.specs.Counts.{counts};
+ghost use Rattle.mapping_words.specs.Told.{Told, fresh};
+ghost use Rattle.key_store.specs.Agrees.{Agrees};
 ghost use Rattle.encryption_roots.specs.RecordSize.{IsRecordSize};
 ghost use Rattle.wrapped_keys.specs.Stored.{parsed_record};
 
 use super::*;
 use crate::state::FamilyRecord;
-use dataset_tree::{Format, MaterialFault, RecordBytes, Refusal, SetName, Stop};
+use dataset_tree::{Format, MaterialFault, NoMemory, RecordBytes, Refusal, SetName, Stop};
 use encryption_roots::{Fetched, KeyCmd, LineKit, Material, Options, Prop, SeedGot, put_at_id};
+use mapping_words::{LoneWords, SlotKeeper};
 use std::alloc::Global;
 use std::test::Fail;
 use wrapped_keys::KeyRecord;
@@ -44,6 +48,15 @@ fn tank(alloc: Global) -> Result<SetName, Fail> {
     Ok(SetName::parse(alloc, b"tank")?)
 }
 
+// Makes a dataset, which leaves the slots of a keeper that agreed.
+fn create(state: &mut KeyState, name: &SetName, opts: &Options, kit: &LineKit) -> Result<u32, Stop>
+    requires { IfSome opts.now.block IsRecordSize }
+    ensures { (t : Told) → Agrees t state.old → Agrees t state.new }
+{
+    key_commands_leave_the_slots();
+    state.create(name, opts, kit)
+}
+
 // A keystore with the root `tank`.
 fn with_root(
     alloc: Global,
@@ -52,11 +65,13 @@ fn with_root(
     seed: SeedGot,
 ) -> Result<Result<KeyState, Stop>, Fail>
     requires { IfSome opts.now.block IsRecordSize }
+    ensures { IfOk result (λ made. IfOk made (Agrees (fresh 256))) }
 {
     let name = tank(alloc)?;
     let kit = kit(alloc, phrase, seed)?;
     let mut state = KeyState::new(alloc)?;
-    match state.create(&name, opts, &kit) {
+    fresh_keepers_agree();
+    match create(&mut state, &name, opts, &kit) {
         Ok(_) => Ok(Ok(state)),
         Err(stop) => Ok(Err(stop)),
     }
@@ -89,11 +104,31 @@ fn a_raw_root_is_loaded_again(rt: HostRuntime) -> Result<(), Fail> {
     let mut state = with_root(alloc, &options(Format::Raw, None), RAW_KEY, SEED)??;
     let name = tank(alloc)?;
     let kit = kit(alloc, RAW_KEY, SEED)?;
-    state.unload(&name)?;
+    let mut words = LoneWords::new(alloc, 256)?;
+    state.unload(&mut words, &(), &name)?;
     state.load(&name, true, &kit)?;
     assert!(rt; !state.status(1));
     state.load(&name, false, &kit)?;
     assert!(rt; state.status(1));
+    Ok(())
+}
+
+#[test]
+fn a_mounted_dataset_keeps_its_key(rt: HostRuntime) -> Result<(), Fail> {
+    let alloc = rt.alloc();
+    let mut state = with_root(alloc, &options(Format::Raw, None), RAW_KEY, SEED)??;
+    let mut words = LoneWords::new(alloc, 256)?;
+    let name = tank(alloc)?;
+    state.mount(&mut words, &(), &name)?;
+    let busy = Refusal::Busy {
+        dataset: 1,
+        count: 1,
+    };
+    assert_eq!(rt; state.unload(&mut words, &(), &name), Err(busy));
+    assert!(rt; state.opened(1).is_some() && state.status(1));
+    state.unmount(&mut words, &(), &name)?;
+    state.unload(&mut words, &(), &name)?;
+    assert!(rt; state.opened(1).is_none() && !state.status(1));
     Ok(())
 }
 
@@ -147,14 +182,44 @@ fn a_damaged_record_is_named(rt: HostRuntime) -> Result<(), Fail> {
     let mut state = with_root(alloc, &options(Format::Raw, None), RAW_KEY, SEED)??;
     let kit = kit(alloc, RAW_KEY, SEED)?;
     let heir = SetName::parse(alloc, b"tank/a")?;
-    state.create(&heir, &Options::none(), &kit)?;
+    create(&mut state, &heir, &Options::none(), &kit)?;
     let name = tank(alloc)?;
-    state.unload(&name)?;
+    let mut words = LoneWords::new(alloc, 256)?;
+    state.unload(&mut words, &(), &name)?;
     damage(&mut state, 2)?;
     let loaded = state.load(&name, false, &kit);
     assert_eq!(rt;
         loaded,
         Err(Stop::Refused(Refusal::WrongKey { dataset: 2 }))
     );
+    Ok(())
+}
+
+// What a keeper counts of a host's keys and mappings.
+fn counts_by<K: SlotKeeper>(
+    state: &KeyState,
+    keeper: &mut K,
+    board: &K::Board,
+) -> Result<Counts, NoMemory>
+    requires fits { K.fits keeper.old board.now }
+    requires agrees { Agrees (K.told keeper.old) state.now }
+    ensures exact { K.tells ≡ true → IfOk result (λ found. found ≡ counts state.now) }
+{
+    state.counts(keeper, board)
+}
+
+#[test]
+fn a_mounted_child_is_counted(rt: HostRuntime) -> Result<(), Fail> {
+    let alloc = rt.alloc();
+    let mut state = with_root(alloc, &options(Format::Raw, None), RAW_KEY, SEED)??;
+    let kit = kit(alloc, RAW_KEY, SEED)?;
+    let heir = SetName::parse(alloc, b"tank/a")?;
+    create(&mut state, &heir, &Options::none(), &kit)?;
+    let mut words = LoneWords::new(alloc, 256)?;
+    state.mount(&mut words, &(), &heir)?;
+    let found = counts_by(&state, &mut words, &())?;
+    assert_eq!(rt; found.wkeys.as_slice(), [(1, 1)].as_slice());
+    assert_eq!(rt; found.mkeys.as_slice(), [(2, 1)].as_slice());
+    assert_eq!(rt; found.maps.as_slice(), [(2, 1, 1)].as_slice());
     Ok(())
 }

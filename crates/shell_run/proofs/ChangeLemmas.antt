@@ -15,7 +15,6 @@ use Rattle.key_machine.specs.Reply.{Done, Refused, Stepped, unless_refused}
 use Rattle.key_machine.specs.Step.{refusal_of, material_refusal, target, told}
 use Rattle.key_machine.specs.Told.{Told}
 use Rattle.key_store.specs.Calls.{AnswersDone, state_after, stepped}
-use Rattle.shell_run.specs.declared.command.Shown.{Shown}
 
 stays_by : (p : Plain) (why : Refusal) (refusal : Option Refusal) (done : Stepped) → (done.reply ≡ Refused why → done.state ≡ p) → (unless_refused p refusal done).reply ≡ Refused why → (unless_refused p refusal done).state ≡ p
 stays_by p why (Some first) done stays refused = refl
@@ -48,16 +47,16 @@ inherit_stays p why name load_first kit refused =
     (λ later. stays_by p why (material_refusal p command facts) done (λ last. inherit_at p why facts (target p command) last) later) refused
 
 stopped : (T : Type 0) (stop : Stop) (p : Plain) (step : Stepped) → ((why : Refusal) → step.reply ≡ Refused why → step.state ≡ p) → AnswersDone (let ended : Result T Stop = Err stop in ended) step.reply
-    → p ≡ state_after (let ended : Result Shown Stop = Err stop in ended) p step.state
+    → p ≡ state_after (let ended : Result (Unit {0}) Stop = Err stop in ended) p step.state
 stopped T (stops.Refused why) p step stays answers = sym (stays why answers)
 stopped T stops.NoMemory p step stays answers = refl
 
 pub change_stopped : (T : Type 0) (stop : Stop) (p : Plain) (name : List ℕ) (opts : Options) (load_first : Bool) (kit : LineKit) → AnswersDone (let ended : Result T Stop = Err stop in ended) (stepped p (commands.Change name opts load_first) kit).reply
-    → p ≡ state_after (let ended : Result Shown Stop = Err stop in ended) p (stepped p (commands.Change name opts load_first) kit).state
+    → p ≡ state_after (let ended : Result (Unit {0}) Stop = Err stop in ended) p (stepped p (commands.Change name opts load_first) kit).state
 change_stopped T stop p name opts load_first kit answers =
     stopped T stop p (stepped p (commands.Change name opts load_first) kit) (λ why. change_stays p why name opts load_first kit) answers
 
 pub inherit_stopped : (T : Type 0) (stop : Stop) (p : Plain) (name : List ℕ) (load_first : Bool) (kit : LineKit) → AnswersDone (let ended : Result T Stop = Err stop in ended) (stepped p (commands.Inherit name load_first) kit).reply
-    → p ≡ state_after (let ended : Result Shown Stop = Err stop in ended) p (stepped p (commands.Inherit name load_first) kit).state
+    → p ≡ state_after (let ended : Result (Unit {0}) Stop = Err stop in ended) p (stepped p (commands.Inherit name load_first) kit).state
 inherit_stopped T stop p name load_first kit answers =
     stopped T stop p (stepped p (commands.Inherit name load_first) kit) (λ why. inherit_stays p why name load_first kit) answers

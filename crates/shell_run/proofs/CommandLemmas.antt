@@ -31,6 +31,7 @@ use lib.Chars.{codes}
 use Rattle.std.specs.List.{AllByRecursion}
 use Rattle.dataset_tree.specs.declared.tree.Row.{Row}
 use Rattle.shell_run.specs.Answers.{Acts, ActsAs, Agrees, Executes, GivesKit, HaltsAt, HaltsIn, HasAnswer, IsDone, PerformsOne, Replies, TakesKit, WhereTold, settled, shown_output, shown_report, spot_of, unspelled, wants_of, well_count, well_of}
+use Rattle.shell_run.specs.Hosts.{host_step}
 use Rattle.shell_run.specs.Outer.{Outer, Takes, left_after}
 use Rattle.shell_run.specs.Ran.{IsFront}
 use Rattle.shell_run.specs.Script.{Script, ToldScript, script_told}
@@ -149,7 +150,7 @@ accepted_is p command needs spot files left script known =
 
 pub executed : (n part : ℕ) (p new : Plain) (command : KeyCmd) (needs : Needs) (kit : LineKit) (a d : Outer) (sa sd : ToldScript) (result : Result Shown Stop) → needed p command ≡ Ok needs
     → ActsAs n part a d (λ made. (entries : List FoundEntry) → Agrees entries made → TakesKit (Ok kit) n part (wants_of needs) entries a sa sd made)
-    → Replies result (stepped p command kit).reply → new ≡ state_after result p (stepped p command kit).state
+    → Replies result (host_step p command kit).reply → new ≡ state_after result p (host_step p command kit).state
     → ActsAs n part a d (λ made. WhereTold (told_world p a sa) made (λ entries w. Executes (settled result) (commanded (spot_of n part entries) w command) (told_world new d sd) made))
 executed n part p new command needs kit a d sa sd result known acts replies after = record {
   made = acts.made;
@@ -164,7 +165,7 @@ executed n part p new command needs kit a d sa sd result known acts replies afte
         let done : commanded spot w command ≡ supplied w command (Has kit gives.0 acts.made) = accepted_is p command needs spot files left script known ∙ ap (supplied w command) gives.2 in
         let rest : List ℕ = left_after (fills_of acts.made) left in
         subst (λ (x : Outcome). Executes (settled result) x (told_world new d sd) acts.made) (sym done)
-        (finish result (stepped p command kit).reply (told_world new d sd) p new (stepped p command kit).state files rest gives.0 acts.made replies after
+        (finish result (host_step p command kit).reply (told_world new d sd) p new (host_step p command kit).state files rest gives.0 acts.made replies after
         (told_after n new a d sd files left gives.0 acts.made acts.takes f e gives.1))),
   );
 }
@@ -229,6 +230,8 @@ shown_done n p reports.Roots command shows.Done reply replies = (ap (key_line n 
 shown_done n p reports.Roots command (shows.Text text) reply replies = (ap (λ r. key_line n (name_in command) (root_outcome p.tree.rows r)) (sym replies), ap well_of (sym replies))
 shown_done n p reports.Sets command shows.Done reply replies = (refl, done_well reply replies)
 shown_done n p reports.Sets command (shows.Text text) reply replies = (refl, ap well_of (sym replies))
+shown_done n p reports.Counts command shows.Done reply replies = (refl, done_well reply replies)
+shown_done n p reports.Counts command (shows.Text text) reply replies = (refl, ap well_of (sym replies))
 shown_done n p (reports.Refused why) command shows.Done reply replies = (refl, done_well reply replies)
 shown_done n p (reports.Refused why) command (shows.Text text) reply replies = (refl, ap well_of (sym replies))
 
@@ -237,6 +240,7 @@ shown_refused : (n : ℕ) (p : Plain) (report : Report) (command : KeyCmd) (why 
 shown_refused n p reports.Replies command why = refl
 shown_refused n p reports.Roots command why = refl
 shown_refused n p reports.Sets command why = refl
+shown_refused n p reports.Counts command why = refl
 shown_refused n p (reports.Refused other) command why = refl
 
 performed_one_by : (n : ℕ) (p : Plain) (outer : Outer) (script : ToldScript) (report : Report) (command : KeyCmd) (shown : Result Shown Refusal) (outcome : Outcome) (result : Result ℕ Halt) (before after : List ℕ) (made : List Taking)
@@ -313,16 +317,16 @@ same_state T stops.NoMemory before after = refl
 -- a load, which is the same from every place
 
 pub loaded_replies : (p : Plain) (command : KeyCmd) (name : List ℕ) (check_only : Bool) (place : Option Location) (kit : LineKit) → command ≡ commands.Load name check_only place
-    → ((from : Option Location) → AnswersDone (let done : Result (Unit {0}) Stop = Ok tt in done) (stepped p (commands.Load name check_only from) kit).reply) → Replies (Ok shows.Done) (stepped p command kit).reply
+    → ((from : Option Location) → AnswersDone (let done : Result (Unit {0}) Stop = Ok tt in done) (stepped p (commands.Load name check_only from) kit).reply) → Replies (Ok shows.Done) (host_step p command kit).reply
 loaded_replies p command name check_only place kit is answers =
-    let done : (stepped p command kit).reply ≡ Done = ap (λ (c : KeyCmd). (stepped p c kit).reply) is ∙ answers place in
+    let done : (host_step p command kit).reply ≡ Done = ap (λ (c : KeyCmd). (host_step p c kit).reply) is ∙ answers place in
     subst IsDone (sym done) tt
 
 pub unloaded_replies : (p : Plain) (command : KeyCmd) (name : List ℕ) (check_only : Bool) (place : Option Location) (kit : LineKit) (stop : Stop) → command ≡ commands.Load name check_only place
-    → ((from : Option Location) → AnswersDone (let stopped : Result (Unit {0}) Stop = Err stop in stopped) (stepped p (commands.Load name check_only from) kit).reply) → Replies (Err stop) (stepped p command kit).reply
+    → ((from : Option Location) → AnswersDone (let stopped : Result (Unit {0}) Stop = Err stop in stopped) (stepped p (commands.Load name check_only from) kit).reply) → Replies (Err stop) (host_step p command kit).reply
 unloaded_replies p command name check_only place kit stop is answers =
-    subst (λ (c : KeyCmd). Replies (Err stop) (stepped p c kit).reply) (sym is) (replies_done stop (stepped p (commands.Load name check_only place) kit).reply (answers place))
+    subst (λ (c : KeyCmd). Replies (Err stop) (host_step p c kit).reply) (sym is) (replies_done stop (stepped p (commands.Load name check_only place) kit).reply (answers place))
 
 pub loaded_state : (T : Type 0) (p new : Plain) (command : KeyCmd) (name : List ℕ) (check_only : Bool) (place : Option Location) (kit : LineKit) (result : Result T Stop) → command ≡ commands.Load name check_only place
-    → ((from : Option Location) → new ≡ state_after result p (stepped p (commands.Load name check_only from) kit).state) → new ≡ state_after result p (stepped p command kit).state
-loaded_state T p new command name check_only place kit result is state = state place ∙ ap (λ (c : KeyCmd). state_after result p (stepped p c kit).state) (sym is)
+    → ((from : Option Location) → new ≡ state_after result p (stepped p (commands.Load name check_only from) kit).state) → new ≡ state_after result p (host_step p command kit).state
+loaded_state T p new command name check_only place kit result is state = state place ∙ ap (λ (c : KeyCmd). state_after result p (host_step p c kit).state) (sym is)

@@ -9,7 +9,7 @@ use Rattle.std.specs.Option.{option_and_then, option_map, option_or}
 use Rattle.dataset_tree.specs.declared.kinds.Format.{Format}
 use Rattle.dataset_tree.specs.declared.kinds.Format.TheVariants.{Raw, Hex, Passphrase}
 use Rattle.dataset_tree.specs.declared.refusal.Refusal.{Refusal}
-use Rattle.dataset_tree.specs.declared.refusal.Refusal.TheVariants.{KeyFault, EntropyFault, KeyFileMissing, KeyUnavailable, WrongKey, BadIters, BadMaterial, Busy, NoSuch}
+use Rattle.dataset_tree.specs.declared.refusal.Refusal.TheVariants.{KeyFault, EntropyFault, KeyFileMissing, KeyUnavailable, WrongKey, BadIters, BadMaterial, Busy, Full, NoSuch}
 use Rattle.dataset_tree.specs.declared.refusal.MaterialFault.TheVariants.{Short, Long, Hex as NoDigit}
 use Rattle.dataset_tree.specs.Refusal.{number_of, Gives}
 use Rattle.encryption_roots.specs.declared.props.Options.{Options}
@@ -33,7 +33,9 @@ use Rattle.key_machine.specs.Create.{has_parent_key, makes_root, makes_encrypted
 use Rattle.key_machine.specs.Fair.{WasAsked, SeedWasAsked, Suffices}
 use Rattle.key_machine.specs.Get.{get_cases}
 use Rattle.key_machine.specs.Inherit.{inherit_cases, key_above, row_above, told_inherit, told_inherited, unless_seed}
+use Rattle.key_machine.specs.Limits.{slot_count}
 use Rattle.key_machine.specs.Load.{load_cases, told_load, told_load_of, told_load_with}
+use Rattle.key_machine.specs.Mount.{free_slot, mount_cases, mount_done, mounted_at, mounted_on}
 use Rattle.key_machine.specs.Plain.{Plain}
 use Rattle.key_machine.specs.Refusals.{first_of, first_refusal}
 use Rattle.key_machine.specs.Rekey.{fetched_old, fetches_old, old_key, old_place, old_wrong, present_key, present_props, told_anew}
@@ -41,6 +43,7 @@ use Rattle.key_machine.specs.Reply.{Reply, Refused, Stepped, unless_refused}
 use Rattle.key_machine.specs.Step.{refusal_of, wanted, told, material_refusal, target, carried_out, in_use, key_step}
 use Rattle.key_machine.specs.Told.{Told, nothing_told, key_of, seed_of}
 use Rattle.key_machine.specs.Unload.{InUse, unload_cases, unloaded}
+use Rattle.key_machine.specs.Unmount.{unmount_cases}
 use Rattle.key_store.specs.declared.needs.Needs.{Needs}
 use Rattle.key_store.specs.Calls.{stepped, needs_of, needed, needed_unless}
 use Rattle.dataset_tree.specs.declared.refusal.Stop.{Stop}
@@ -48,6 +51,7 @@ use Rattle.dataset_tree.specs.declared.refusal.Stop.TheVariants as stops
 use Rattle.edge_io.specs.Faults.{Rose}
 use Rattle.shell_run.specs.declared.command.Shown.{Shown}
 use Rattle.shell_run.specs.Answers.{HasWanted, IsOfLine, Replies, settled}
+use Rattle.shell_run.specs.Hosts.{host_step, reaped_behind}
 
 -- a refusal for a taking that failed, by its number
 pub record IsTaking (why : Refusal) : Type 0 where
@@ -97,8 +101,9 @@ module _ (why : Refusal) (taking : IsTaking why) where
   state_apart p (commands.Inherit name load_first) of_line found =
       not_first why (inherit_cases p name load_first)
       (low _ (omega arith), (low _ (omega arith), (high _ (omega arith), (low _ (omega arith), (high _ (omega arith), (low _ (omega arith), (low _ (omega arith), tt))))))) found
-  state_apart p (commands.Mount name) of_line found = absurd of_line
-  state_apart p (commands.Unmount name) of_line found = absurd of_line
+  state_apart p (commands.Mount name) of_line found =
+      not_first why (mount_cases p name) (low _ (omega arith), (low _ (omega arith), (high _ (omega arith), (low _ (omega arith), (high _ (omega arith), tt))))) found
+  state_apart p (commands.Unmount name) of_line found = not_first why (unmount_cases p name) (low _ (omega arith), (low _ (omega arith), (high _ (omega arith), tt))) found
   state_apart p (commands.Clone from name) of_line found = absurd of_line
   state_apart p (commands.Receive name props wrapped block) of_line found = absurd of_line
   state_apart p (commands.Destroy name snaps) of_line found = absurd of_line
@@ -112,6 +117,18 @@ module _ (why : Refusal) (taking : IsTaking why) where
   unloaded_apart p root None refused = cc
   unloaded_apart p root (Some busy) refused = high (Busy busy.dataset busy.count) (omega arith) (cc)
 
+  mounted_on_apart : (p : Plain) (id : ℕ) (free : Option ℕ) → (mounted_on p id free).reply ≡ Refused why → ⊥
+  mounted_on_apart p id None refused = high (Full slot_count) (omega arith) (cc)
+  mounted_on_apart p id (Some slot) refused = cc
+
+  mounted_at_apart : (p : Plain) (id : ℕ) (slot : Option ℕ) → (mounted_at p id slot).reply ≡ Refused why → ⊥
+  mounted_at_apart p id None refused = mounted_on_apart p id (free_slot p) refused
+  mounted_at_apart p id (Some slot) refused = cc
+
+  mounted_apart : (p : Plain) (at : Option ℕ) → (mount_done p at).reply ≡ Refused why → ⊥
+  mounted_apart p None refused = no_such_apart refused
+  mounted_apart p (Some id) refused = mounted_at_apart p id (at_id id p.mapped) refused
+
   carried_apart : (p : Plain) (command : KeyCmd) → IsOfLine command → (facts : Told) (busy : Option InUse) (at : Option ℕ) → (carried_out p command facts busy at).reply ≡ Refused why → ⊥
   carried_apart p (commands.Create name opts) of_line facts busy at refused = cc
   carried_apart p (commands.Load name check_only place) of_line facts busy None refused = no_such_apart refused
@@ -124,8 +141,9 @@ module _ (why : Refusal) (taking : IsTaking why) where
   carried_apart p (commands.Change name opts load_first) of_line facts busy (Some id) refused = cc
   carried_apart p (commands.Inherit name load_first) of_line facts busy None refused = no_such_apart refused
   carried_apart p (commands.Inherit name load_first) of_line facts busy (Some id) refused = cc
-  carried_apart p (commands.Mount name) of_line facts busy at refused = absurd of_line
-  carried_apart p (commands.Unmount name) of_line facts busy at refused = absurd of_line
+  carried_apart p (commands.Mount name) of_line facts busy at refused = mounted_apart p at refused
+  carried_apart p (commands.Unmount name) of_line facts busy None refused = no_such_apart refused
+  carried_apart p (commands.Unmount name) of_line facts busy (Some id) refused = cc
   carried_apart p (commands.Clone from name) of_line facts busy at refused = absurd of_line
   carried_apart p (commands.Receive name props wrapped block) of_line facts busy at refused = absurd of_line
   carried_apart p (commands.Destroy name snaps) of_line facts busy at refused = absurd of_line
@@ -172,8 +190,8 @@ module _ (why : Refusal) (taking : IsTaking why) where
   material_is p (commands.Change name opts load_first) of_line facts found = change_material_is facts.fault facts.wrong found
   material_is p (commands.Inherit name load_first) of_line facts found =
       inherit_material_is facts.fault facts.wrong (has_parent_key p (row_above p (row_named name p.tree.rows))) found
-  material_is p (commands.Mount name) of_line facts found = absurd of_line
-  material_is p (commands.Unmount name) of_line facts found = absurd of_line
+  material_is p (commands.Mount name) of_line facts found = absurd (cc)
+  material_is p (commands.Unmount name) of_line facts found = absurd (cc)
   material_is p (commands.Clone from name) of_line facts found = absurd of_line
   material_is p (commands.Receive name props wrapped block) of_line facts found = absurd of_line
   material_is p (commands.Destroy name snaps) of_line facts found = absurd of_line
@@ -317,8 +335,8 @@ module _ (why : Refusal) (taking : IsTaking why) where
       change_fault p opts load_first kit (row_named name p.tree.rows) suffices.old_key (suffices.new_key refl) (suffices.seed refl) fault
   kit_fault p (commands.Inherit name load_first) kit of_line suffices fault =
       inherit_fault p load_first kit (row_named name p.tree.rows) suffices.old_key (suffices.seed refl) fault
-  kit_fault p (commands.Mount name) kit of_line suffices fault = absurd of_line
-  kit_fault p (commands.Unmount name) kit of_line suffices fault = absurd of_line
+  kit_fault p (commands.Mount name) kit of_line suffices fault = absurd (cc)
+  kit_fault p (commands.Unmount name) kit of_line suffices fault = absurd (cc)
   kit_fault p (commands.Clone from name) kit of_line suffices fault = absurd of_line
   kit_fault p (commands.Receive name props wrapped block) kit of_line suffices fault = absurd of_line
   kit_fault p (commands.Destroy name snaps) kit of_line suffices fault = absurd of_line
@@ -346,10 +364,25 @@ suffices_by p command needs kit known has =
       seed = λ asked. has.seed (ap (λ (n : Needs). n.seed) (sym wants) ∙ asked);
     }
 
+-- the reap behind a step leaves its reply
+step_reply : (command : KeyCmd) (step : Stepped) → (reaped_behind command step).reply ≡ step.reply
+step_reply (commands.Create name opts) step = refl
+step_reply (commands.Load name check_only place) step = refl
+step_reply (commands.Unload name) step = refl
+step_reply (commands.Change name opts load_first) step = refl
+step_reply (commands.Inherit name load_first) step = refl
+step_reply (commands.Mount name) step = refl
+step_reply (commands.Unmount name) step = refl
+step_reply (commands.Get name prop) step = refl
+step_reply (commands.Clone from name) step = refl
+step_reply (commands.Receive name props wrapped block) step = refl
+step_reply (commands.Destroy name snaps) step = refl
+
 pub executed_fault : (why : Refusal) → IsTaking why → (p : Plain) (command : KeyCmd) → IsOfLine command → (needs : Needs) (kit : LineKit) (result : Result Shown Stop) → needed p command ≡ Ok needs → HasWanted needs kit
-    → Replies result (stepped p command kit).reply → settled result ≡ Ok (Err why) → Failed why kit
+    → Replies result (host_step p command kit).reply → settled result ≡ Ok (Err why) → Failed why kit
 executed_fault why taking p command of_line needs kit result known has replies refused =
-    step_fault why taking p command kit of_line (suffices_by p command needs kit known has) (replies_refused result (stepped p command kit).reply why refused replies)
+    step_fault why taking p command kit of_line (suffices_by p command needs kit known has)
+    (sym (step_reply command (stepped p command kit)) ∙ replies_refused result (host_step p command kit).reply why refused replies)
 
 needed_apart : (why : Refusal) (p : Plain) (command : KeyCmd) (refusal : Option Refusal) → needed_unless p command refusal ≡ Err why → refusal ≡ Some why
 needed_apart why p command None known = absurd (cc)

@@ -39,8 +39,8 @@ seedless_wants p (commands.Load name check_only place) seedless = refl
 seedless_wants p (commands.Unload name) seedless = refl
 seedless_wants p (commands.Change name opts load_first) seedless = absurd seedless
 seedless_wants p (commands.Inherit name load_first) seedless = absurd seedless
-seedless_wants p (commands.Mount name) seedless = absurd seedless
-seedless_wants p (commands.Unmount name) seedless = absurd seedless
+seedless_wants p (commands.Mount name) seedless = refl
+seedless_wants p (commands.Unmount name) seedless = refl
 seedless_wants p (commands.Get name prop) seedless = refl
 seedless_wants p (commands.Clone from name) seedless = absurd seedless
 seedless_wants p (commands.Receive name props wrapped block) seedless = absurd seedless
@@ -348,6 +348,14 @@ pub performed_all : (n : ℕ) (report : Report) (q : Plain) (a b : Outer) (scrip
 performed_all n report q a b script first all i count good before mid after result past p printed ended =
     performed_end n report q a b script first all count good before mid after result
     (subst (λ (rest : List KeyCmd). PerformsTo n report a b first (told_world q b script) all rest count good before mid) (drop_all i all past) p) printed ended
+
+-- the text behind all commands leaves the state as it is
+pub performed_closed : (n : ℕ) (report : Report) (q now : Plain) (a b : Outer) (script : ToldScript) (first : Option World) (all : List KeyCmd) (i count good : ℕ) (before mid after : List ℕ) (result : Result (Unit {0}) Halt) → length all ≤ i → now ≡ q
+    → PerformsTo n report a b first (told_world q b script) all (drop i all) count good before mid → OnOk result (after ≡ mid ++ closing n q report good count) → OnErr result (result ≡ Err NoMemory)
+    → Acts n a b (λ made. WhereTold first made (λ entries w. HasAnswer result (performed n entries report (begun w) all) (told_world now b script) before after made))
+performed_closed n report q now a b script first all i count good before mid after result past same p printed ended =
+    subst (λ (s : Plain). Acts n a b (λ made. WhereTold first made (λ entries w. HasAnswer result (performed n entries report (begun w) all) (told_world s b script) before after made))) (sym same)
+    (performed_all n report q a b script first all i count good before mid after result past p printed ended)
 
 -- ---- the script over several calls
 

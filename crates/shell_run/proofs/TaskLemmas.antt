@@ -21,7 +21,7 @@ use Rattle.key_ciphers.specs.Ciphers.{ciphers}
 use Rattle.key_machine.specs.Plain.{Plain}
 use Rattle.key_machine.specs.Sound.{Sound}
 use Rattle.shell_lines.specs.declared.line.Line.{Line}
-use Rattle.shell_lines.specs.declared.line.Line.TheVariants.{Silent, Create, LoadKey, UnloadKey, ChangeKey, InheritKey, LoadBelow, LoadAll, UnloadBelow, UnloadAll, Get, List as ListSets}
+use Rattle.shell_lines.specs.declared.line.Line.TheVariants.{Silent, Create, LoadKey, UnloadKey, ChangeKey, InheritKey, LoadBelow, LoadAll, UnloadBelow, UnloadAll, Mount, Unmount, Get, List as ListSets, Counts as ShowCounts}
 use Rattle.shell_lines.specs.Sized.{HasRecordSize}
 use Rattle.shell_run.specs.declared.task.RootAction.{RootAction}
 use Rattle.shell_run.specs.declared.task.RootAction.TheVariants.{Load, Unload}
@@ -77,6 +77,7 @@ roots_of_line p action (Err why) = none_of_line
 asked_of_line : (p : Plain) (line : Line) → HasRecordSize line → AreOfLine (asked_of p line).commands
 asked_of_line p Silent sized = none_of_line
 asked_of_line p ListSets sized = none_of_line
+asked_of_line p ShowCounts sized = none_of_line
 asked_of_line p (Create word opts) sized = name_of_line (λ name. commands.Create name opts) (named word) (λ name. sized)
 asked_of_line p (LoadKey word check_only place) sized = name_of_line (λ name. commands.Load name check_only place) (named word) (λ name. tt)
 asked_of_line p (LoadBelow word check_only) sized = roots_of_line p (Load check_only) (roots_named p (named word))
@@ -86,6 +87,8 @@ asked_of_line p (UnloadBelow word) sized = roots_of_line p Unload (roots_named p
 asked_of_line p UnloadAll sized = roots_of_line p Unload (Ok (all_roots p))
 asked_of_line p (ChangeKey word opts load_first) sized = name_of_line (λ name. commands.Change name opts load_first) (named word) (λ name. tt)
 asked_of_line p (InheritKey word load_first) sized = name_of_line (λ name. commands.Inherit name load_first) (named word) (λ name. tt)
+asked_of_line p (Mount word) sized = name_of_line (λ name. commands.Mount name) (named word) (λ name. tt)
+asked_of_line p (Unmount word) sized = name_of_line (λ name. commands.Unmount name) (named word) (λ name. tt)
 asked_of_line p (Get prop word) sized = name_of_line (λ name. commands.Get name prop) (named word) (λ name. tt)
 
 pub task_of_line : (p : Plain) (line : Line) (all : List KeyCmd) → HasRecordSize line → all ≡ (asked_of p line).commands → AreOfLine all

@@ -187,8 +187,8 @@ IsOfLine (commands.Load name check_only place) = Unit {0}
 IsOfLine (commands.Unload name) = Unit {0}
 IsOfLine (commands.Change name opts load_first) = Unit {0}
 IsOfLine (commands.Inherit name load_first) = Unit {0}
-IsOfLine (commands.Mount name) = ⊥
-IsOfLine (commands.Unmount name) = ⊥
+IsOfLine (commands.Mount name) = Unit {0}
+IsOfLine (commands.Unmount name) = Unit {0}
 IsOfLine (commands.Get name prop) = Unit {0}
 IsOfLine (commands.Clone from name) = ⊥
 IsOfLine (commands.Receive name props wrapped block) = ⊥
@@ -201,8 +201,8 @@ IsSeedless (commands.Load name check_only place) = Unit {0}
 IsSeedless (commands.Unload name) = Unit {0}
 IsSeedless (commands.Change name opts load_first) = ⊥
 IsSeedless (commands.Inherit name load_first) = ⊥
-IsSeedless (commands.Mount name) = ⊥
-IsSeedless (commands.Unmount name) = ⊥
+IsSeedless (commands.Mount name) = Unit {0}
+IsSeedless (commands.Unmount name) = Unit {0}
 IsSeedless (commands.Get name prop) = Unit {0}
 IsSeedless (commands.Clone from name) = ⊥
 IsSeedless (commands.Receive name props wrapped block) = ⊥
@@ -227,6 +227,11 @@ Replies (Ok shows.Done) reply = IsDone reply
 Replies (Ok (shows.Text text)) reply = reply ≡ Text text
 Replies (Err (stops.Refused why)) reply = reply ≡ Refused why
 Replies (Err stops.NoMemory) reply = Unit {0}
+
+-- what a call that takes no memory shows
+abbrev pub shown_unless : Result (Unit {0}) Why → Result Shown Stop
+shown_unless (Ok done) = Ok shows.Done
+shown_unless (Err why) = Err (stops.Refused why)
 
 -- want of memory ends the run
 abbrev pub settled : Result Shown Stop → Result (Result Shown Why) Halt
@@ -304,6 +309,7 @@ abbrev pub shown_report : ℕ → List Row → Report → KeyCmd → Result Show
 shown_report n rows reports.Replies command shown = shown_output n rows shown
 shown_report n rows reports.Roots command shown = key_line n (name_in command) (shown_root rows shown)
 shown_report n rows reports.Sets command shown = []
+shown_report n rows reports.Counts command shown = []
 shown_report n rows (reports.Refused why) command shown = []
 
 abbrev pub well_count : Result Shown Why → ℕ

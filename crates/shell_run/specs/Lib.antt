@@ -3,6 +3,7 @@ pub mod Script
 pub mod Takings
 pub mod Outer
 pub mod Tasks
+pub mod Hosts
 pub mod Reports
 pub mod Transcript
 pub mod Ran

@@ -9,7 +9,7 @@ use Rattle.key_machine.specs.Plain.{Plain}
 use Rattle.key_machine.specs.Reply.{Reply, Done, Made, Text, Refused, Reaped, Skipped}
 use Rattle.shell_run.specs.declared.task.Report.{Report}
 use Rattle.shell_run.specs.declared.task.Report.TheVariants as reports
-use Rattle.shell_run.specs.Texts.{ok_line, text_line, error_text, error_line, set_line, key_line, total_line}
+use Rattle.shell_run.specs.Texts.{ok_line, text_line, error_text, error_line, set_line, counts_lines, key_line, total_line}
 
 -- the dataset that a command is about
 abbrev pub name_in : KeyCmd → List ℕ
@@ -56,6 +56,7 @@ abbrev pub reported : ℕ → Plain → Report → KeyCmd → Reply → List ℕ
 reported n p reports.Replies command reply = reply_output n p reply
 reported n p reports.Roots command reply = key_line n (name_in command) (root_outcome p.tree.rows reply)
 reported n p reports.Sets command reply = []
+reported n p reports.Counts command reply = []
 reported n p (reports.Refused why) command reply = []
 
 -- what is printed behind all commands of a line, of which so many were tried and so many went well
@@ -63,4 +64,5 @@ abbrev pub closing : ℕ → Plain → Report → (well tried : ℕ) → List �
 closing n p reports.Replies well tried = []
 closing n p reports.Roots well tried = total_line n well tried
 closing n p reports.Sets well tried = flat_map (set_line n p) p.tree.rows ++ ok_line n
+closing n p reports.Counts well tried = counts_lines n p ++ ok_line n
 closing n p (reports.Refused why) well tried = error_line n p.tree.rows why

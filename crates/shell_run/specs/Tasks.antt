@@ -13,9 +13,9 @@ use Rattle.encryption_roots.specs.declared.command.KeyCmd.TheVariants as command
 use Rattle.encryption_roots.specs.Owned.{roots_below}
 use Rattle.key_machine.specs.Plain.{Plain, has_key}
 use Rattle.shell_lines.specs.declared.line.Line.{Line}
-use Rattle.shell_lines.specs.declared.line.Line.TheVariants.{Silent, Create, LoadKey, UnloadKey, ChangeKey, InheritKey, LoadBelow, LoadAll, UnloadBelow, UnloadAll, Get, List as ListSets}
+use Rattle.shell_lines.specs.declared.line.Line.TheVariants.{Silent, Create, LoadKey, UnloadKey, ChangeKey, InheritKey, LoadBelow, LoadAll, UnloadBelow, UnloadAll, Mount, Unmount, Get, List as ListSets, Counts as ShowCounts}
 use Rattle.shell_run.specs.declared.task.Report.{Report}
-use Rattle.shell_run.specs.declared.task.Report.TheVariants.{Replies, Roots, Sets, Refused}
+use Rattle.shell_run.specs.declared.task.Report.TheVariants.{Replies, Roots, Sets, Counts, Refused}
 use Rattle.shell_run.specs.declared.task.RootAction.{RootAction}
 use Rattle.shell_run.specs.declared.task.RootAction.TheVariants.{Load, Unload}
 
@@ -93,5 +93,8 @@ asked_of p (UnloadBelow word) = on_roots p Unload (roots_named p (named word))
 asked_of p UnloadAll = on_roots p Unload (Ok (all_roots p))
 asked_of p (ChangeKey word opts load_first) = on_name (λ name. commands.Change name opts load_first) word
 asked_of p (InheritKey word load_first) = on_name (λ name. commands.Inherit name load_first) word
+asked_of p (Mount word) = on_name (λ name. commands.Mount name) word
+asked_of p (Unmount word) = on_name (λ name. commands.Unmount name) word
 asked_of p (Get prop word) = on_name (λ name. commands.Get name prop) word
 asked_of p ListSets = no_command Sets
+asked_of p ShowCounts = no_command Counts

@@ -14,6 +14,7 @@ use Rattle.dataset_tree.specs.declared.kinds.Kind.{Kind}
 use Rattle.dataset_tree.specs.declared.kinds.Kind.TheVariants.{Plain as PlainKind, Crypt}
 use Rattle.dataset_tree.specs.declared.tree.Row.{Row}
 use Rattle.encryption_roots.specs.declared.props.Prop.TheVariants.{Encryption}
+use Rattle.key_machine.specs.Counts.{Counted, counts}
 use Rattle.key_machine.specs.Plain.{Plain, is_root, has_key}
 use Rattle.key_machine.specs.Get.{property_text, status_text}
 use Rattle.dataset_tree.specs.Refusal.{number_of, name_of}
@@ -106,6 +107,23 @@ kind_text p id Crypt =
 -- the row of `list` for a dataset
 abbrev pub set_line : ℕ → Plain → Row → List ℕ
 set_line n p row = reply_line n (codes "set " ++ row.name ++ kind_text p row.id row.kind)
+
+-- how many use each loaded wrapping key and each opened master key, and how many a mapping, with its generation
+abbrev pub count_line : ℕ → (kind : List ℕ) → List Row → ℕ × ℕ → List ℕ
+count_line n kind rows entry = reply_line n (kind ++ spaced (dataset_text rows entry.0 ∷ decimal entry.1 ∷ []))
+
+abbrev pub map_line : ℕ → List Row → ℕ × ℕ × ℕ → List ℕ
+map_line n rows entry =
+    reply_line n (codes "map" ++ spaced (dataset_text rows entry.0 ∷ decimal entry.1 ∷ decimal entry.2 ∷ []))
+
+abbrev pub counted_lines : ℕ → List Row → Counted → List ℕ
+counted_lines n rows counted =
+    flat_map (count_line n (codes "wkey") rows) counted.wkeys
+    ++ flat_map (count_line n (codes "mkey") rows) counted.mkeys
+    ++ flat_map (map_line n rows) counted.maps
+
+abbrev pub counts_lines : ℕ → Plain → List ℕ
+counts_lines n p = counted_lines n p.tree.rows (counts p)
 
 -- `N key NAME` and what came of the root of this name, which a line tries among several
 abbrev pub key_line : ℕ → (name outcome : List ℕ) → List ℕ

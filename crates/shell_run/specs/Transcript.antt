@@ -19,13 +19,13 @@ use Rattle.key_machine.specs.Plain.{Plain, no_keys}
 use Rattle.key_machine.specs.Reply.{Reply, Refused}
 use Rattle.key_machine.specs.Step.{refusal_of, wanted}
 use Rattle.key_machine.specs.Told.{Wanted}
-use Rattle.key_store.specs.Calls.{stepped}
 use Rattle.shell_lines.specs.declared.line.Line.{Line}
 use Rattle.shell_lines.specs.Grammar.{line_of}
 use Rattle.shell_run.specs.declared.found.FoundEntry.{FoundEntry}
 use Rattle.shell_run.specs.declared.task.Report.{Report}
 use Rattle.shell_run.specs.declared.found.FoundKind.{FoundKind}
 use Rattle.shell_run.specs.declared.found.FoundKind.TheVariants.{OldKey, NewKey, Seed}
+use Rattle.shell_run.specs.Hosts.{host_step}
 use Rattle.shell_run.specs.Outer.{Outer, left_after}
 use Rattle.shell_run.specs.Script.{Script, ToldScript, Given, Gives, Stops, past_line, prompted, script_of, script_told, within_limits}
 use Rattle.shell_run.specs.Takings.{Taking, entries_of, has_entry, fills_of}
@@ -145,11 +145,11 @@ pub data Outcome : Type 0 where
   Does : (done : Commanded) → Outcome
   Halts : (number at : ℕ) (world : World) (takings : List Taking) → Outcome
 
--- the machine's step under what the command has taken
+-- the host's step under what the command has taken
 abbrev pub supplied : World → KeyCmd → Supply → Outcome
 supplied w command (Lacks number at takings) = Halts number at w takings
 supplied w command (Has kit left takings) =
-    let step = stepped w.present.keys command kit in
+    let step = host_step w.present.keys command kit in
     Does (record {
       world = world_of step.state w.files (left_after (fills_of takings) w.entropy) left;
       reply = step.reply;

@@ -4,16 +4,18 @@ ghost use Rattle.std.specs.List.{flat_map};
 ghost use Rattle.std.specs.Result.{result_err};
 ghost use Rattle.shell_lines.specs.Grammar.{line_of};
 ghost use Rattle.shell_lines.specs.Sized.{HasRecordSize};
-ghost use Rattle.shell_run.specs.Answers.{Acts, ActsAs, AreOfLine, HasAnswer, IsOfLine, PerformsOne, Reads, WhereTold, shown_output, shown_report, spot_of, unspelled, well_count};
+ghost use Rattle.shell_run.specs.Answers.{Acts, ActsAs, AreOfLine, HasAnswer, IsOfLine, IsTask, PerformsOne, Reads, WhereTold, shown_output, shown_report, spot_of, unspelled, well_count};
 ghost use Rattle.shell_run.specs.Reports.{closing, name_in};
-ghost use Rattle.shell_run.specs.Texts.{ok_line, set_line};
+ghost use Rattle.shell_run.specs.Tasks.{asked_of};
+ghost use Rattle.shell_run.specs.Texts.{counts_lines, ok_line, set_line};
 ghost use Rattle.shell_run.specs.Transcript.{answer_if, answer_of, begun, commanded, performed, told_world};
 
 use crate::command::{Shown, execute};
 use crate::ending::Halt;
+use crate::host::Host;
 use crate::outside::Outside;
-use crate::reply::{push_error, push_key, push_ok, push_sets, push_text, push_total};
-use crate::task::{MAX_PARTS, Report, task_of};
+use crate::reply::{push_counts, push_error, push_key, push_ok, push_sets, push_text, push_total};
+use crate::task::{MAX_PARTS, Report, Task, task_of};
 use dataset_tree::{NoMemory, Refusal, SetName};
 use encryption_roots::KeyCmd;
 use key_store::KeyState;
@@ -24,7 +26,7 @@ use std::alloc::Global;
 /// bytes spell no line, or the line isn't carried out to its end.
 pub(crate) fn answer<W: Outside>(
     alloc: Global,
-    keys: &mut KeyState,
+    host: &mut Host,
     outside: &mut W,
     number: u32,
     bytes: &[u8],
@@ -32,16 +34,16 @@ pub(crate) fn answer<W: Outside>(
 ) -> Result<(), Halt>
     requires { length bytes.now ≤ 65536 }
     ensures told { Acts number (W.told outside.old) (W.told outside.new) (λ made.
-        WhereTold (told_world keys.old (W.told outside.old) (W.script outside.old)) made (λ entries w.
+        WhereTold (told_world host.old (W.told outside.old) (W.script outside.old)) made (λ entries w.
         HasAnswer result (answer_if number entries w (line_of bytes.now 0))
-        (told_world keys.new (W.told outside.new) (W.script outside.new))
+        (told_world host.new (W.told outside.new) (W.script outside.new))
         output.old.items output.new.items made)) }
     ensures reads { Reads (result_err result) (W.script outside.old) (W.script outside.new)
         (W.faults outside.old) (W.faults outside.new) }
     ensures holds { W.holds outside.new ≡ W.holds outside.old }
 {
     match parse_line(alloc, bytes, 0) {
-        Ok(line) => carry_out(alloc, keys, outside, number, &line, output),
+        Ok(line) => carry_out(alloc, host, outside, number, &line, output),
         Err(stop) => Err(halt_of(number, stop)),
     }
 }
@@ -58,7 +60,7 @@ fn halt_of(number: u32, stop: LineStop) -> Halt
 
 fn carry_out<W: Outside>(
     alloc: Global,
-    keys: &mut KeyState,
+    host: &mut Host,
     outside: &mut W,
     number: u32,
     line: &Line,
@@ -66,21 +68,21 @@ fn carry_out<W: Outside>(
 ) -> Result<(), Halt>
     requires { HasRecordSize line.now }
     ensures told { Acts number (W.told outside.old) (W.told outside.new) (λ made.
-        WhereTold (told_world keys.old (W.told outside.old) (W.script outside.old)) made (λ entries w.
+        WhereTold (told_world host.old (W.told outside.old) (W.script outside.old)) made (λ entries w.
         HasAnswer result (answer_of number entries w line.now)
-        (told_world keys.new (W.told outside.new) (W.script outside.new))
+        (told_world host.new (W.told outside.new) (W.script outside.new))
         output.old.items output.new.items made)) }
     ensures reads { Reads (result_err result) (W.script outside.old) (W.script outside.new)
         (W.faults outside.old) (W.faults outside.new) }
     ensures holds { W.holds outside.new ≡ W.holds outside.old }
 {
-    let task = match task_of(alloc, keys, line) {
+    let task = match task_for(alloc, host, line) {
         Ok(task) => task,
         Err(_) => return Err(Halt::NoMemory),
     };
     perform(
         alloc,
-        keys,
+        host,
         outside,
         number,
         &task.report,
@@ -89,10 +91,18 @@ fn carry_out<W: Outside>(
     )
 }
 
+/// What a line asks for.
+fn task_for(alloc: Global, host: &Host, line: &Line) -> Result<Task, NoMemory>
+    ensures asked { IfOk result (λ task. IsTask task (asked_of host.now line.now)) }
+    ensures few { IfOk result (λ task. length task.commands.items ≤ MAX_PARTS) }
+{
+    task_of(alloc, host.keys(), line)
+}
+
 /// Carries out commands one after another, each as a part of its own, and adds the report of them.
 fn perform<W: Outside>(
     alloc: Global,
-    keys: &mut KeyState,
+    host: &mut Host,
     outside: &mut W,
     number: u32,
     report: &Report,
@@ -102,9 +112,9 @@ fn perform<W: Outside>(
     requires few { length commands.now ≤ MAX_PARTS }
     requires of_line { AreOfLine commands.now }
     ensures told { Acts number (W.told outside.old) (W.told outside.new) (λ made.
-        WhereTold (told_world keys.old (W.told outside.old) (W.script outside.old)) made (λ entries w.
+        WhereTold (told_world host.old (W.told outside.old) (W.script outside.old)) made (λ entries w.
         HasAnswer result (performed number entries report.now (begun w) commands.now)
-        (told_world keys.new (W.told outside.new) (W.script outside.new)) output.old.items output.new.items made)) }
+        (told_world host.new (W.told outside.new) (W.script outside.new)) output.old.items output.new.items made)) }
     ensures reads { Reads (result_err result) (W.script outside.old) (W.script outside.new)
         (W.faults outside.old) (W.faults outside.new) }
     ensures holds { W.holds outside.new ≡ W.holds outside.old }
@@ -113,20 +123,20 @@ fn perform<W: Outside>(
     let mut well: u64 = 0;
     for command in commands {
         let part = tried as u32;
-        match perform_one(alloc, keys, outside, number, part, report, command, output) {
+        match perform_one(alloc, host, outside, number, part, report, command, output) {
             Ok(count) => well += count,
             Err(halt) => return Err(halt),
         }
         tried += 1;
     }
-    push_closing(output, number, keys, report, well, tried)
+    push_closing(output, number, host, report, well, tried)
 }
 
 /// Carries out a command of this part of the line, adds the report of it, and answers how many commands went
 /// well: one or none.
 fn perform_one<W: Outside>(
     alloc: Global,
-    keys: &mut KeyState,
+    host: &mut Host,
     outside: &mut W,
     number: u32,
     part: u32,
@@ -136,16 +146,16 @@ fn perform_one<W: Outside>(
 ) -> Result<u64, Halt>
     requires { IsOfLine command.now }
     ensures told { ActsAs number part (W.told outside.old) (W.told outside.new) (λ made.
-        WhereTold (told_world keys.old (W.told outside.old) (W.script outside.old)) made (λ entries w.
+        WhereTold (told_world host.old (W.told outside.old) (W.script outside.old)) made (λ entries w.
         PerformsOne result number report.now command.now (commanded (spot_of number part entries) w command.now)
-        (told_world keys.new (W.told outside.new) (W.script outside.new)) output.old.items output.new.items made)) }
+        (told_world host.new (W.told outside.new) (W.script outside.new)) output.old.items output.new.items made)) }
     ensures few { IfOk result (λ count. count ≤ 1) }
     ensures reads { Reads (result_err result) (W.script outside.old) (W.script outside.new)
         (W.faults outside.old) (W.faults outside.new) }
     ensures holds { W.holds outside.new ≡ W.holds outside.old }
 {
-    match execute(alloc, keys, outside, number, part, command) {
-        Ok(shown) => push_report(output, number, keys, report, command, &shown),
+    match execute(alloc, host, outside, number, part, command) {
+        Ok(shown) => push_report(output, number, host, report, command, &shown),
         Err(halt) => Err(halt),
     }
 }
@@ -154,20 +164,20 @@ fn perform_one<W: Outside>(
 fn push_report(
     output: &mut Vec<u8>,
     number: u32,
-    keys: &KeyState,
+    host: &Host,
     report: &Report,
     command: &KeyCmd,
     shown: &Result<Shown, Refusal>,
 ) -> Result<u64, Halt>
     ensures text { OnOk result (output.new.items ≡ output.old.items
-        ++ shown_report number keys.now.tree.rows report.now command.now shown.now) }
+        ++ shown_report number host.now.tree.rows report.now command.now shown.now) }
     ensures count { IfOk result (λ count. count ≡ well_count shown.now) }
     ensures stops { OnErr result (result ≡ Err Halt.NoMemory) }
 {
     match report {
-        Report::Replies => push_shown(output, number, keys, shown)?,
-        Report::Roots => push_key(output, number, keys.tree(), name_in(command), shown)?,
-        Report::Sets | Report::Refused(_) => {}
+        Report::Replies => push_shown(output, number, host.keys(), shown)?,
+        Report::Roots => push_key(output, number, host.keys().tree(), name_in(command), shown)?,
+        Report::Sets | Report::Counts | Report::Refused(_) => {}
     }
     Ok(well_count(shown))
 }
@@ -204,21 +214,33 @@ fn name_in(command: &KeyCmd) -> &SetName
 fn push_closing(
     output: &mut Vec<u8>,
     number: u32,
-    keys: &KeyState,
+    host: &mut Host,
     report: &Report,
     well: u64,
     tried: u64,
 ) -> Result<(), Halt>
-    ensures text { OnOk result (output.new.items ≡ output.old.items ++ closing number keys.now report.now well tried) }
+    ensures text { OnOk result (output.new.items ≡ output.old.items ++ closing number host.old report.now well tried) }
     ensures stops { OnErr result (result ≡ Err Halt.NoMemory) }
+    ensures same { host.new ≡ host.old }
 {
     match report {
         Report::Replies => {}
         Report::Roots => push_total(output, number, well, tried)?,
-        Report::Sets => push_list(output, number, keys)?,
-        Report::Refused(why) => push_error(output, number, keys.tree(), why)?,
+        Report::Sets => push_list(output, number, host.keys())?,
+        Report::Counts => push_users(output, number, host)?,
+        Report::Refused(why) => push_error(output, number, host.keys().tree(), why)?,
     }
     Ok(())
+}
+
+/// Adds how many use each key and each mapping, and that the line was carried out.
+fn push_users(output: &mut Vec<u8>, number: u32, host: &mut Host) -> Result<(), NoMemory>
+    ensures text { OnOk result (output.new.items ≡ output.old.items ++ (counts_lines number host.old ++ ok_line number)) }
+    ensures same { host.new ≡ host.old }
+{
+    let counts = host.counts()?;
+    push_counts(output, number, host.keys().tree(), &counts)?;
+    push_ok(output, number)
 }
 
 /// Adds the rows of all datasets, and that the line was carried out.

@@ -2,21 +2,21 @@
 ghost use Rattle.std.specs.Prelude.{◌≡◌, Err, List, IfOk, Ok, is_some, true};
 ghost use Rattle.std.specs.Result.{result_err};
 ghost use Rattle.edge_io.specs.Faults.{Rose};
-ghost use Rattle.encryption_roots.specs.declared.command.KeyCmd.TheVariants as commands;
 ghost use Rattle.key_machine.specs.Fair.{WasAsked};
-ghost use Rattle.key_store.specs.Calls.{stepped, state_after};
+ghost use Rattle.key_store.specs.Calls.{state_after};
 ghost use Rattle.shell_run.specs.declared.found.FoundEntry.{FoundEntry};
-ghost use Rattle.shell_run.specs.Answers.{Acts, ActsAs, Agrees, Executes, Fetches, IsOfLine, HasWanted, Reads, Replies, TakesKit, WhereTold, settled, spot_of, wants_of};
+ghost use Rattle.shell_run.specs.Answers.{Acts, ActsAs, Agrees, Executes, Fetches, IsOfLine, HasWanted, Reads, Replies, TakesKit, WhereTold, settled, shown_unless, spot_of, wants_of};
+ghost use Rattle.shell_run.specs.Hosts.{host_step};
 ghost use Rattle.shell_run.specs.Takings.{is_fetch};
 ghost use Rattle.shell_run.specs.Transcript.{commanded, told_world};
 
 use crate::ending::Halt;
 use crate::found::{FoundEntry, FoundKind};
+use crate::host::Host;
 use crate::outside::Outside;
-use change_key::{plan_change, plan_inherit};
-use dataset_tree::{Refusal, SetName, Stop};
-use encryption_roots::{Fetched, KeyCmd, LineKit, Location, Options, PropText, SeedGot};
-use key_store::{KeyState, Needs, states_are_sound};
+use dataset_tree::{Refusal, Stop};
+use encryption_roots::{Fetched, KeyCmd, LineKit, Location, PropText, SeedGot};
+use key_store::Needs;
 use std::alloc::Global;
 
 /// What a command that isn't refused shows.
@@ -30,7 +30,7 @@ pub(crate) enum Shown {
 /// refusal. Where the state refuses it, nothing is taken. An `Err` says that the run is over.
 pub(crate) fn execute<W: Outside>(
     alloc: Global,
-    keys: &mut KeyState,
+    host: &mut Host,
     outside: &mut W,
     number: u32,
     part: u32,
@@ -38,9 +38,9 @@ pub(crate) fn execute<W: Outside>(
 ) -> Result<Result<Shown, Refusal>, Halt>
     requires { IsOfLine command.now }
     ensures told { ActsAs number part (W.told outside.old) (W.told outside.new) (λ made.
-        WhereTold (told_world keys.old (W.told outside.old) (W.script outside.old)) made (λ entries w.
+        WhereTold (told_world host.old (W.told outside.old) (W.script outside.old)) made (λ entries w.
         Executes result (commanded (spot_of number part entries) w command.now)
-        (told_world keys.new (W.told outside.new) (W.script outside.new)) made)) }
+        (told_world host.new (W.told outside.new) (W.script outside.new)) made)) }
     ensures reads { Reads (result_err result) (W.script outside.old) (W.script outside.new)
         (W.faults outside.old) (W.faults outside.new) }
     // These two refusals come only where a taking for this line failed.
@@ -50,7 +50,7 @@ pub(crate) fn execute<W: Outside>(
         Rose (W.told outside.old).fills.faults (W.told outside.new).fills.faults }
     ensures holds { W.holds outside.new ≡ W.holds outside.old }
 {
-    let needs = match keys.needs(command) {
+    let needs = match host.needs(command) {
         Ok(needs) => needs,
         Err(stop) => return settle(Err(stop)),
     };
@@ -58,7 +58,7 @@ pub(crate) fn execute<W: Outside>(
         Ok(kit) => kit,
         Err(halt) => return Err(halt),
     };
-    settle(carry(alloc, keys, command, &kit))
+    settle(carry(alloc, host, command, &kit))
 }
 
 /// What is shown, or a refusal; want of memory ends the run.
@@ -73,13 +73,13 @@ fn settle(answer: Result<Shown, Stop>) -> Result<Result<Shown, Refusal>, Halt>
 }
 
 /// Carries out a command with its kit. No line gives any of the last ones yet.
-fn carry(alloc: Global, keys: &mut KeyState, command: &KeyCmd, kit: &LineKit) -> Result<Shown, Stop>
+fn carry(alloc: Global, host: &mut Host, command: &KeyCmd, kit: &LineKit) -> Result<Shown, Stop>
     requires { IsOfLine command.now }
-    ensures reply { Replies result (stepped keys.old command.now kit.now).reply }
-    ensures state { keys.new ≡ state_after result keys.old (stepped keys.old command.now kit.now).state }
+    ensures reply { Replies result (host_step host.old command.now kit.now).reply }
+    ensures state { host.new ≡ state_after result host.old (host_step host.old command.now kit.now).state }
 {
     match command {
-        KeyCmd::Create { name, opts } => match keys.create(name, opts, kit) {
+        KeyCmd::Create { name, opts } => match host.create(name, opts, kit) {
             Ok(_) => Ok(Shown::Done),
             Err(stop) => Err(stop),
         },
@@ -87,73 +87,44 @@ fn carry(alloc: Global, keys: &mut KeyState, command: &KeyCmd, kit: &LineKit) ->
             name,
             check_only,
             ..
-        } => match keys.load(name, *check_only, kit) {
+        } => match host.load(name, *check_only, kit) {
             Ok(()) => Ok(Shown::Done),
             Err(stop) => Err(stop),
         },
-        KeyCmd::Unload { name } => match keys.unload(name) {
+        KeyCmd::Unload { name } => done_unless(host.unload(name)),
+        KeyCmd::Mount { name } => match host.mount(name) {
             Ok(()) => Ok(Shown::Done),
-            Err(why) => Err(Stop::Refused(why)),
+            Err(stop) => Err(stop),
         },
-        KeyCmd::Get { name, prop } => match keys.tree().find(name) {
+        KeyCmd::Unmount { name } => done_unless(host.unmount(name)),
+        KeyCmd::Get { name, prop } => match host.keys().tree().find(name) {
             None => Err(Stop::Refused(Refusal::NoSuch)),
-            Some(id) => Ok(Shown::Text(keys.get_prop(id, *prop)?)),
+            Some(id) => Ok(Shown::Text(host.keys().get_prop(id, *prop)?)),
         },
         KeyCmd::Change {
             name,
             opts,
             load_first,
-        } => change(alloc, keys, name, opts, *load_first, kit),
-        KeyCmd::Inherit { name, load_first } => inherit(alloc, keys, name, *load_first, kit),
-        KeyCmd::Mount { .. }
-        | KeyCmd::Unmount { .. }
-        | KeyCmd::Clone { .. }
-        | KeyCmd::Receive { .. }
-        | KeyCmd::Destroy { .. } => unreachable!(),
+        } => match host.change(alloc, name, opts, *load_first, kit) {
+            Ok(()) => Ok(Shown::Done),
+            Err(stop) => Err(stop),
+        },
+        KeyCmd::Inherit { name, load_first } => match host.inherit(alloc, name, *load_first, kit) {
+            Ok(()) => Ok(Shown::Done),
+            Err(stop) => Err(stop),
+        },
+        KeyCmd::Clone { .. } | KeyCmd::Receive { .. } | KeyCmd::Destroy { .. } => unreachable!(),
     }
 }
 
-/// Gives a dataset a key of its own.
-fn change(
-    alloc: Global,
-    keys: &mut KeyState,
-    name: &SetName,
-    opts: &Options,
-    load_first: bool,
-    kit: &LineKit,
-) -> Result<Shown, Stop>
-    ensures reply { Replies result (stepped keys.old (commands.Change name.now opts.now load_first) kit.now).reply }
-    ensures state { keys.new ≡ state_after result keys.old
-        (stepped keys.old (commands.Change name.now opts.now load_first) kit.now).state }
+/// What a call that takes no memory shows.
+fn done_unless(answer: Result<(), Refusal>) -> Result<Shown, Stop>
+    ensures { result ≡ shown_unless answer }
 {
-    states_are_sound(keys);
-    let plan = match plan_change(alloc, keys, name, opts, load_first, kit) {
-        Ok(plan) => plan,
-        Err(stop) => return Err(stop),
-    };
-    keys.apply_change(plan);
-    Ok(Shown::Done)
-}
-
-/// Lets a root use its parent's key.
-fn inherit(
-    alloc: Global,
-    keys: &mut KeyState,
-    name: &SetName,
-    load_first: bool,
-    kit: &LineKit,
-) -> Result<Shown, Stop>
-    ensures reply { Replies result (stepped keys.old (commands.Inherit name.now load_first) kit.now).reply }
-    ensures state { keys.new ≡ state_after result keys.old
-        (stepped keys.old (commands.Inherit name.now load_first) kit.now).state }
-{
-    states_are_sound(keys);
-    let plan = match plan_inherit(alloc, keys, name, load_first, kit) {
-        Ok(plan) => plan,
-        Err(stop) => return Err(stop),
-    };
-    keys.apply_change(plan);
-    Ok(Shown::Done)
+    match answer {
+        Ok(()) => Ok(Shown::Done),
+        Err(why) => Err(Stop::Refused(why)),
+    }
 }
 
 /// Takes the present key, the new key and a seed, each that is needed, whatever the others gave. Where a

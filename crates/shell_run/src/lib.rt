@@ -5,6 +5,7 @@ mod answer;
 mod command;
 mod ending;
 mod found;
+mod host;
 mod laws;
 mod outside;
 mod reply;

@@ -4,13 +4,13 @@ ghost use Rattle.std.specs.List.{flat_map};
 ghost use Rattle.hex.specs.Hex.{encode_lower};
 ghost use Rattle.key_machine.specs.Get.{status_text};
 ghost use Rattle.shell_run.specs.Answers.{shown_root};
-ghost use Rattle.shell_run.specs.Texts.{ok_line, text_line, error_line, error_text, key_line, total_line, heir_text, kind_text, set_line, bad_line, dataset_text, material_text, fields_of, spaced};
+ghost use Rattle.shell_run.specs.Texts.{count_line, counted_lines, map_line, ok_line, text_line, error_line, error_text, key_line, total_line, heir_text, kind_text, set_line, bad_line, dataset_text, material_text, fields_of, spaced};
 
 use crate::command::Shown;
 use dataset_tree::{Kind, MaterialFault, NoMemory, Refusal, Row, SetName, Tree};
 use encryption_roots::Prop;
 use itoa::Buffer;
-use key_store::KeyState;
+use key_store::{Counts, KeyState};
 
 /// Adds a number in decimal digits.
 fn push_number(text: &mut Vec<u8>, number: u64) -> Result<(), NoMemory>
@@ -101,6 +101,86 @@ pub(crate) fn push_sets(text: &mut Vec<u8>, line: u32, keys: &KeyState) -> Resul
         push_set(text, line, keys, row)?;
     }
     Ok(())
+}
+
+/// Adds how many use each loaded wrapping key, each opened master key, and each mapping.
+pub(crate) fn push_counts(
+    text: &mut Vec<u8>,
+    line: u32,
+    tree: &Tree,
+    counts: &Counts,
+) -> Result<(), NoMemory>
+    ensures { OnOk result (text.new.items ≡ text.old.items ++ counted_lines line tree.now.rows counts.now) }
+{
+    push_keys(text, line, b"wkey", tree, counts.wkeys.as_slice())?;
+    push_keys(text, line, b"mkey", tree, counts.mkeys.as_slice())?;
+    push_maps(text, line, tree, counts.maps.as_slice())
+}
+
+fn push_keys(
+    text: &mut Vec<u8>,
+    line: u32,
+    kind: &[u8],
+    tree: &Tree,
+    keys: &[(u32, u32)],
+) -> Result<(), NoMemory>
+    ensures { OnOk result (text.new.items ≡ text.old.items
+        ++ flat_map (count_line line kind.now tree.now.rows) keys.now) }
+{
+    for entry in keys {
+        push_key_count(text, line, kind, tree, *entry)?;
+    }
+    Ok(())
+}
+
+fn push_key_count(
+    text: &mut Vec<u8>,
+    line: u32,
+    kind: &[u8],
+    tree: &Tree,
+    entry: (u32, u32),
+) -> Result<(), NoMemory>
+    ensures { OnOk result (text.new.items ≡ text.old.items ++ count_line line kind.now tree.now.rows entry) }
+{
+    push_number(text, line as u64)?;
+    text.extend_from_slice(b" ")?;
+    text.extend_from_slice(kind)?;
+    push_dataset(text, tree, entry.0)?;
+    text.extend_from_slice(b" ")?;
+    push_number(text, entry.1 as u64)?;
+    text.extend_from_slice(b"\n")
+}
+
+fn push_maps(
+    text: &mut Vec<u8>,
+    line: u32,
+    tree: &Tree,
+    maps: &[(u32, u32, u32)],
+) -> Result<(), NoMemory>
+    ensures { OnOk result (text.new.items ≡ text.old.items ++ flat_map (map_line line tree.now.rows) maps.now) }
+{
+    for entry in maps {
+        push_map(text, line, tree, *entry)?;
+    }
+    Ok(())
+}
+
+fn push_map(
+    text: &mut Vec<u8>,
+    line: u32,
+    tree: &Tree,
+    entry: (u32, u32, u32),
+) -> Result<(), NoMemory>
+    ensures { OnOk result (text.new.items ≡ text.old.items ++ map_line line tree.now.rows entry) }
+{
+    push_number(text, line as u64)?;
+    text.extend_from_slice(b" map")?;
+    push_dataset(text, tree, entry.0)?;
+    text.extend_from_slice(b" ")?;
+    push_number(text, entry.1 as u64)?;
+    text.extend_from_slice(b" ")?;
+    push_number(text, entry.2 as u64)?;
+    text.extend_from_slice(b"\n")
 }
 
 /// Adds the reply to a line that is refused. Datasets are named by the tree.

@@ -16,11 +16,11 @@ ghost use Rattle.shell_run.specs.Transcript.{answer_if, told_transcript, told_wo
 use crate::answer::answer;
 use crate::ending::Ending;
 use crate::found::Found;
+use crate::host::Host;
 use crate::outside::{Lent, Outside};
 use crate::reply::push_bad;
 use crate::script::MAX_LINES;
 use edge_io::{Entropy, Failed, KeyFiles, LineReader, Sink, Source};
-use key_store::KeyState;
 use std::alloc::Global;
 
 const USAGE_LINE: &[u8] = b"usage: zfs_shell [--max-salt-uses N] [--generate N]\n";
@@ -137,11 +137,11 @@ fn run_words<S: Source, O: Sink, F: KeyFiles, E: Entropy>(
     ensures sink { SinkFaults (Some result) (O.faults out.old) (O.faults out.new) }
 {
     match start(alloc, words) {
-        Ok((mut reader, mut keys)) => {
+        Ok((mut reader, mut host)) => {
             run_script(
                 alloc,
                 &mut reader,
-                &mut keys,
+                &mut host,
                 script,
                 out,
                 files,
@@ -157,7 +157,7 @@ fn run_words<S: Source, O: Sink, F: KeyFiles, E: Entropy>(
 fn run_script<S: Source, O: Sink, F: KeyFiles, E: Entropy>(
     alloc: Global,
     reader: &mut LineReader,
-    keys: &mut KeyState,
+    host: &mut Host,
     script: &mut S,
     out: &mut O,
     files: &mut F,
@@ -165,7 +165,7 @@ fn run_script<S: Source, O: Sink, F: KeyFiles, E: Entropy>(
     found: &mut Found,
 ) -> Ending
     requires reader { reader.old ≡ [] }
-    requires keys { keys.old ≡ no_keys }
+    requires host { host.old ≡ no_keys }
     ensures told { let before : Outer = record {
       files = F.files files.old;
       fetches = calls_of (F.calls files.old) (F.failing files.old) (F.faults files.old);
@@ -196,12 +196,12 @@ fn run_script<S: Source, O: Sink, F: KeyFiles, E: Entropy>(
         entropy,
         found,
     };
-    let ending = run_lines(alloc, keys, out, &mut outside);
+    let ending = run_lines(alloc, host, out, &mut outside);
     ending
 }
 
 /// A reader that has taken nothing, and a host that holds nothing, for a command line without words.
-fn start(alloc: Global, words: &[String]) -> Result<(LineReader, KeyState), Ending>
+fn start(alloc: Global, words: &[String]) -> Result<(LineReader, Host), Ending>
     ensures made { IfOk result (λ made. (made.0 ≡ []) × (made.1 ≡ no_keys) × (words.now ≡ [])) }
     ensures none { IfErr result (λ ending. StartsNot ending words.now) }
 {
@@ -212,12 +212,12 @@ fn start(alloc: Global, words: &[String]) -> Result<(LineReader, KeyState), Endi
 }
 
 /// A reader that has taken nothing, and a host that holds nothing.
-fn make(alloc: Global) -> Result<(LineReader, KeyState), Ending>
+fn make(alloc: Global) -> Result<(LineReader, Host), Ending>
     ensures made { IfOk result (λ made. (made.0 ≡ []) × (made.1 ≡ no_keys)) }
     ensures none { IfErr result (λ ending. ending ≡ Ending.NoMemory) }
 {
-    match (KeyState::new(alloc), LineReader::new(alloc)) {
-        (Ok(keys), Ok(reader)) => Ok((reader, keys)),
+    match (Host::new(alloc), LineReader::new(alloc)) {
+        (Ok(host), Ok(reader)) => Ok((reader, host)),
         _ => Err(Ending::NoMemory),
     }
 }
@@ -225,12 +225,12 @@ fn make(alloc: Global) -> Result<(LineReader, KeyState), Ending>
 /// Runs the lines that are left of the script.
 pub(crate) fn run_lines<O: Sink, W: Outside>(
     alloc: Global,
-    keys: &mut KeyState,
+    host: &mut Host,
     out: &mut O,
     outside: &mut W,
 ) -> Ending
     ensures told { RunsFrom (λ line. line ≤ MAX_LINES) (W.told outside.old) (W.told outside.new) (λ found made.
-        IfSome (told_world keys.old (W.told outside.old) (W.script outside.old)) (λ w.
+        IfSome (told_world host.old (W.told outside.old) (W.script outside.old)) (λ w.
         Ends result (run_from found w) made (O.taken out.old) (O.taken out.new))) }
     ensures end { result ≡ Ending.Done
         → IfSome (W.script outside.old).ahead (λ ahead. (W.script outside.new).ahead ≡ Some []) }
@@ -241,7 +241,7 @@ pub(crate) fn run_lines<O: Sink, W: Outside>(
 {
     let mut reply = Vec::new(alloc);
     'lines: loop {
-        if let Some(ending) = run_line(alloc, keys, &mut reply, out, outside) {
+        if let Some(ending) = run_line(alloc, host, &mut reply, out, outside) {
             return ending;
         }
     }
@@ -250,15 +250,15 @@ pub(crate) fn run_lines<O: Sink, W: Outside>(
 /// Takes the next line, carries it out and prints its reply; else says how the run ends.
 fn run_line<O: Sink, W: Outside>(
     alloc: Global,
-    keys: &mut KeyState,
+    host: &mut Host,
     reply: &mut Vec<u8>,
     out: &mut O,
     outside: &mut W,
 ) -> Option<Ending>
     ensures told { RunsFrom (λ line. (line ≡ (W.script outside.old).next)
         × (line ≤ MAX_LINES)) (W.told outside.old) (W.told outside.new) (λ found made.
-        IfSome (told_world keys.old (W.told outside.old) (W.script outside.old)) (λ w.
-        LineRan result found w (told_world keys.new (W.told outside.new) (W.script outside.new))
+        IfSome (told_world host.old (W.told outside.old) (W.script outside.old)) (λ w.
+        LineRan result found w (told_world host.new (W.told outside.new) (W.script outside.new))
         (O.taken out.old) (O.taken out.new) made)) }
     ensures past { GoesPast result (W.script outside.old) (W.script outside.new) }
     ensures not_usage { result ≢ Some Ending.Usage }
@@ -268,7 +268,7 @@ fn run_line<O: Sink, W: Outside>(
 {
     let number = outside.next();
     match outside.take_line() {
-        Ok(line) => reply_to(alloc, number, keys, line.as_slice(), reply, out, outside),
+        Ok(line) => reply_to(alloc, number, host, line.as_slice(), reply, out, outside),
         Err(ending) => Some(ending),
     }
 }
@@ -277,7 +277,7 @@ fn run_line<O: Sink, W: Outside>(
 fn reply_to<O: Sink, W: Outside>(
     alloc: Global,
     number: u32,
-    keys: &mut KeyState,
+    host: &mut Host,
     line: &[u8],
     reply: &mut Vec<u8>,
     out: &mut O,
@@ -285,9 +285,9 @@ fn reply_to<O: Sink, W: Outside>(
 ) -> Option<Ending>
     requires { length line.now ≤ 65536 }
     ensures told { Acts number (W.told outside.old) (W.told outside.new) (λ made.
-        WhereTold (told_world keys.old (W.told outside.old) (W.script outside.old)) made (λ entries w.
+        WhereTold (told_world host.old (W.told outside.old) (W.script outside.old)) made (λ entries w.
         Replied result (answer_if number entries w (line_of line.now 0))
-        (told_world keys.new (W.told outside.new) (W.script outside.new))
+        (told_world host.new (W.told outside.new) (W.script outside.new))
         (O.taken out.old) (O.taken out.new) made)) }
     ensures later { (W.script outside.old).next ≤ (W.script outside.new).next }
     ensures stays { result ≡ None → is_some (W.script outside.old).ahead ≡ true
@@ -298,7 +298,7 @@ fn reply_to<O: Sink, W: Outside>(
     ensures holds { W.holds outside.new ≡ W.holds outside.old }
 {
     reply.clear();
-    match answer(alloc, keys, outside, number, line, reply) {
+    match answer(alloc, host, outside, number, line, reply) {
         Ok(()) => match write_all(out, reply.as_slice()) {
             Ok(()) => None,
             Err(_) => Some(Ending::WriteFault),

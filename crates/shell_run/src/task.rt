@@ -25,6 +25,8 @@ pub(crate) enum Report {
     Roots,
     /// The rows of all datasets.
     Sets,
+    /// How many use each loaded key and each mapping.
+    Counts,
     /// Why no command is given.
     Refused(Refusal),
 }
@@ -52,6 +54,7 @@ pub(crate) fn task_of(alloc: Global, keys: &KeyState, line: &Line) -> Result<Tas
     match line {
         Line::Silent => no_command(alloc, Report::Replies),
         Line::List => no_command(alloc, Report::Sets),
+        Line::Counts => no_command(alloc, Report::Counts),
         Line::Create { name, opts } => one_if(alloc, create_command(alloc, name, opts)),
         Line::LoadKey {
             name,
@@ -77,6 +80,8 @@ pub(crate) fn task_of(alloc: Global, keys: &KeyState, line: &Line) -> Result<Tas
         Line::InheritKey { name, load_first } => {
             one_if(alloc, inherit_command(alloc, name, *load_first))
         }
+        Line::Mount { name } => one_if(alloc, mount_command(alloc, name)),
+        Line::Unmount { name } => one_if(alloc, unmount_command(alloc, name)),
         Line::Get { prop, name } => one_if(alloc, get_command(alloc, *prop, name)),
     }
 }
@@ -322,6 +327,20 @@ fn inherit_command(alloc: Global, name: &Word, load_first: bool) -> Result<KeyCm
 {
     let name = SetName::parse(alloc, name.as_bytes())?;
     Ok(KeyCmd::Inherit { name, load_first })
+}
+
+fn mount_command(alloc: Global, name: &Word) -> Result<KeyCmd, Stop>
+    ensures { Gives result (command_named (λ name. commands.Mount name) (named name.now)) }
+{
+    let name = SetName::parse(alloc, name.as_bytes())?;
+    Ok(KeyCmd::Mount { name })
+}
+
+fn unmount_command(alloc: Global, name: &Word) -> Result<KeyCmd, Stop>
+    ensures { Gives result (command_named (λ name. commands.Unmount name) (named name.now)) }
+{
+    let name = SetName::parse(alloc, name.as_bytes())?;
+    Ok(KeyCmd::Unmount { name })
 }
 
 fn get_command(alloc: Global, prop: Prop, name: &Word) -> Result<KeyCmd, Stop>

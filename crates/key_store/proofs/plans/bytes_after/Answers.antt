@@ -1,7 +1,7 @@
-use Rattle.std.proofs.Common.{◌≡◌, ℕ, ◌==◌, List, Option, None, Some, sym, ap, ◌∙◌}
+use Rattle.std.proofs.Common.{◌≡◌, ℕ, ◌==◌, List, Option, None, Some, ap, ◌∙◌}
 use Rattle.std.specs.Prelude.{unwrap_or}
 use Rattle.std.specs.List.{find}
-use Rattle.std.specs.Option.{option_copied, option_map}
+use Rattle.std.specs.Option.{option_map}
 use Rattle.encryption_roots.specs.ById.{at_id}
 use Rattle.key_store.proofs.PlanLemmas.{first_written}
 use Rattle.key_store.proofs.plans.bytes_after.Goals as goal

@@ -1,4 +1,4 @@
-use Rattle.std.proofs.Common.{◌≡◌, ◌<◌, ◌≤◌, length, true, is_err, None, Some, Option, sym, ◌∙◌, subst, arith}
+use Rattle.std.proofs.Common.{◌≡◌, ◌<◌, ◌≤◌, length, true, is_err, None, Option, sym, ◌∙◌, subst, arith}
 use Rattle.encryption_roots.specs.declared.props.Props.{Props}
 use Rattle.encryption_roots.specs.ById.{at_id, with_id}
 use Rattle.key_machine.specs.Plan.{set_id}

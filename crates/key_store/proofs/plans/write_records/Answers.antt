@@ -1,4 +1,4 @@
-use Rattle.std.proofs.Common.{◌≡◌, ◌<◌, ◌∙◌, ℕ, List, length, set, ap, sym, arith}
+use Rattle.std.proofs.Common.{◌<◌, ◌∙◌, ℕ, List, length, set, ap, sym, arith}
 use Rattle.std.proofs.lemmas.List.Edits.{map_over_more}
 use Rattle.key_store.specs.declared.state.FamilyRecord.{FamilyRecord}
 use Rattle.key_store.specs.State.{with_written}

@@ -18,4 +18,4 @@ invariant_of-state-2 c =
     let none : c.state.inside.loaded.items ≡ [] =
     empty c.state.inside.loaded.items c.state.inside.loaded.len c.state.inside.loaded.ok.0 (sym c.is_empty.ensures ∙ c.if-not-is_empty.false) in
     replaced_kept c.state.inside c.args.state.now c.state.view_is c.state.invariant none c.args.family c.in-Some.stored.now c.in-Some.ensures c.in_ok-wrapped.wrapped form
-    (record c.state.inside { records = c.put_at_id.new.entries }) refl refl refl c.in_ok-put_at_id.ensures.ok c.in_ok-put_at_id.ensures.room (omega arith)
+    (record c.state.inside { records = c.put_at_id.new.entries }) refl c.in_ok-put_at_id.ensures.ok c.in_ok-put_at_id.ensures.room

@@ -2,12 +2,12 @@ use Rattle.std.proofs.Common.{◌∙◌, ◌+◌, None, ℕ, ap, refl, arith}
 use Rattle.shell_run.specs.Outer.{Outer}
 use Rattle.shell_run.specs.Script.{ToldScript}
 use Rattle.shell_run.specs.Transcript.{told_world}
-use Rattle.shell_run.proofs.PerformLemmas.{performed_none, performed_step, performed_halt_at, performed_all, reads_both, reads_ended}
+use Rattle.shell_run.proofs.PerformLemmas.{performed_none, performed_step, performed_halt_at, performed_closed, reads_both, reads_ended}
 use Rattle.shell_run.proofs.answer.perform.Goals as goal
 
 pub loop-command-init : goal.loop-command-init
 loop-command-init g c = record {
-  so_far = performed_none c.args.number c.args.report.now c.args.keys.now (g.W.Outside.told c.args.outside.now) (g.W.Outside.script c.args.outside.now) c.args.commands.now c.args.output.now.items;
+  so_far = performed_none c.args.number c.args.report.now c.args.host.now (g.W.Outside.told c.args.outside.now) (g.W.Outside.script c.args.outside.now) c.args.commands.now c.args.output.now.items;
   tried = refl;
   well = omega arith;
   reads = record { later = omega arith; told = λ goes told. told; faults = refl };
@@ -31,7 +31,7 @@ returns-in-Err-clause-told g c =
     let sa : ToldScript = g.W.Outside.script c.args.outside.now in
     let sb : ToldScript = g.W.Outside.script c.loop-command.outside in
     let sd : ToldScript = g.W.Outside.script c.perform_one.new.outside in
-    performed_halt_at c.args.number c.args.report.now a b d (told_world c.args.keys.now a sa) (told_world c.loop-command.keys b sb) (told_world c.perform_one.new.keys d sd)
+    performed_halt_at c.args.number c.args.report.now a b d (told_world c.args.host.now a sa) (told_world c.loop-command.host b sb) (told_world c.perform_one.new.host d sd)
     c.args.commands.now c.loop-command.command-index c.command-item.result c.loop-command.tried c.loop-command.well c.args.output.now.items c.loop-command.output.items c.perform_one.new.output.items c.in-Err.halt
     (omega arith) c.command-item.is c.loop-command.invariant.tried c.loop-command.invariant.so_far c.in-Err.ensures.told
 
@@ -50,7 +50,7 @@ loop-command-preserved g c =
     let sb : ToldScript = g.W.Outside.script c.loop-command.outside in
     let sd : ToldScript = g.W.Outside.script c.perform_one.new.outside in
     record {
-      so_far = performed_step c.args.number c.args.report.now a b d (told_world c.args.keys.now a sa) (told_world c.loop-command.keys b sb) (told_world c.perform_one.new.keys d sd)
+      so_far = performed_step c.args.number c.args.report.now a b d (told_world c.args.host.now a sa) (told_world c.loop-command.host b sb) (told_world c.perform_one.new.host d sd)
           c.args.commands.now c.loop-command.command-index c.command-item.result c.loop-command.tried c.loop-command.well c.in-Ok.count c.args.output.now.items c.loop-command.output.items c.perform_one.new.output.items
           (omega arith) c.command-item.is c.requires.of_line c.loop-command.invariant.so_far c.in-Ok.ensures.told;
       tried = ap (λ (k : ℕ). k + 1) c.loop-command.invariant.tried;
@@ -65,8 +65,8 @@ returns-clause-told g c =
     let b : Outer = g.W.Outside.told c.loop-command.outside in
     let sa : ToldScript = g.W.Outside.script c.args.outside.now in
     let sb : ToldScript = g.W.Outside.script c.loop-command.outside in
-    performed_all c.args.number c.args.report.now c.loop-command.keys a b sb (told_world c.args.keys.now a sa) c.args.commands.now c.loop-command.command-index c.loop-command.tried c.loop-command.well
-    c.args.output.now.items c.loop-command.output.items c.push_closing.new.output.items c.push_closing.result (omega arith) c.loop-command.invariant.so_far c.push_closing.ensures.text c.push_closing.ensures.stops
+    performed_closed c.args.number c.args.report.now c.loop-command.host c.push_closing.new.host a b sb (told_world c.args.host.now a sa) c.args.commands.now c.loop-command.command-index c.loop-command.tried c.loop-command.well
+    c.args.output.now.items c.loop-command.output.items c.push_closing.new.output.items c.push_closing.result (omega arith) c.push_closing.ensures.same c.loop-command.invariant.so_far c.push_closing.ensures.text c.push_closing.ensures.stops
 
 pub returns-clause-reads : goal.returns-clause-reads
 returns-clause-reads g c =

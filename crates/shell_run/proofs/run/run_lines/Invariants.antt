@@ -8,7 +8,7 @@ use Rattle.shell_run.proofs.run.run_lines.Given as goal
 abbrev pub invariant-lines : goal.invariant-lines
 invariant-lines g l = record {
   reached : RunsFrom (Before (g.W.Outside.script l.outside).next) (g.W.Outside.told l.fn.outside) (g.W.Outside.told l.outside)
-      (HasReached (told_world l.fn.keys (g.W.Outside.told l.fn.outside) (g.W.Outside.script l.fn.outside)) (told_world l.keys (g.W.Outside.told l.outside) (g.W.Outside.script l.outside))
+      (HasReached (told_world l.fn.host (g.W.Outside.told l.fn.outside) (g.W.Outside.script l.fn.outside)) (told_world l.host (g.W.Outside.told l.outside) (g.W.Outside.script l.outside))
       (g.O.Sink.taken l.fn.out) (g.O.Sink.taken l.out));
   ahead : is_some (g.W.Outside.script l.fn.outside).ahead ≡ true → is_some (g.W.Outside.script l.outside).ahead ≡ true;
   source : g.W.Outside.faults l.outside ≡ g.W.Outside.faults l.fn.outside;

@@ -31,7 +31,7 @@ invariant_of-self c =
     ∙ ap (λ (w : List (ℕ × List ℕ)). map (λ entry. with_written w entry) c.self.inside.records.items) c.as_slice.ensures.value in
     carried_kept c.self.inside c.args.self.now c.args.plan c.self.view_is c.self.invariant c.requires.planned
     (record c.self.inside { roots = c.set_root.new.roots; records = with_items c.self.inside.records c.write_records.new.records; loaded = c.set_key.new.keys })
-    refl c.set_root.ensures (left_items c.self.inside c.args.plan.wrapped.items c.write_records.new.records records) c.set_key.ensures.keys (omega arith) c.set_key.ensures.room
+    refl c.set_root.ensures (left_items c.self.inside c.args.plan.wrapped.items c.write_records.new.records records) c.set_key.ensures.keys refl (omega arith) c.set_key.ensures.room
 
 pub returns : goal.returns
 returns c =
@@ -40,4 +40,4 @@ returns c =
     ∙ ap (λ (w : List (ℕ × List ℕ)). map (λ entry. with_written w entry) c.self.inside.records.items) c.as_slice.ensures.value in
     carried_out c.self.inside c.args.self.now c.args.plan c.self.view_is c.self.invariant c.requires.planned
     (record c.self.inside { roots = c.set_root.new.roots; records = with_items c.self.inside.records c.write_records.new.records; loaded = c.set_key.new.keys })
-    refl c.set_root.ensures (left_items c.self.inside c.args.plan.wrapped.items c.write_records.new.records records) c.set_key.ensures.keys
+    refl c.set_root.ensures (left_items c.self.inside c.args.plan.wrapped.items c.write_records.new.records records) c.set_key.ensures.keys refl

@@ -17,11 +17,13 @@ use Rattle.key_machine.specs.Told.{Told}
 use Rattle.key_machine.proofs.CreateLawsCases.{created_with}
 use Rattle.key_machine.proofs.CreateLawsStep.{IsFree, free}
 use Rattle.key_machine.proofs.KeyLists.{All-with_id}
+use Rattle.dataset_tree.specs.Tree.{Datasets}
+use Rattle.key_store.proofs.OpenedLemmas.{AreOpened, created_opened}
 use Rattle.key_store.specs.declared.state.FamilyRecord.{FamilyRecord}
 use Rattle.key_ciphers.specs.Ciphers.{ciphers}
 use Rattle.key_store.specs.Calls.{stepped}
 use Rattle.key_store.specs.NewRoot.{IsToldFamily}
-use Rattle.key_store.specs.State.{plain_of, stored_of, stored_records}
+use Rattle.key_store.specs.State.{plain_of, stored_of, stored_records, IsKept}
 use Rattle.key_store.proofs.RecordLemmas.{rising_records, with_id-stored}
 use Rattle.key_store.proofs.RoomLemmas.{one_more_row}
 use Rattle.key_store.proofs.CreateLemmas.{few_families, given_id, heir_encrypted, heir_step, heir_sound, heir_opens, heir_state}
@@ -96,10 +98,16 @@ invariant_of-self-2 c =
       records = subst (λ (records : List (ℕ × FamilyRecord)). All (λ entry. is_some (parsed_record entry.1.wrapped) ≡ true) records) (sym c.put_with_room.ensures.put) in_form;
       sizes = subst (λ (records : List (ℕ × FamilyRecord)). All (λ entry. IsRecordSize entry.1.block) records) (sym c.put_with_room.ensures.put) sizes;
       props = c.self.invariant.props;
+      by_family = c.self.invariant.by_family;
+      opened = subst (λ (p : Plain). AreOpened ciphers p c.self.inside.opened.items) (sym (made c))
+          (created_opened ciphers (before c) c.args.name.now c.args.opts.now (facts c) false true c.self.inside.opened.items c.self.invariant.sound (accepted c) c.self.invariant.opened);
       room = record {
         datasets = one_more_row (before c).tree c.add_free.new.tree c.args.name.now Crypt c.in_ok-id.ensures.added (free (before c) c.args.name.now c.args.opts.now (accepted c)).rows;
         records = omega (arith, c.self.invariant.room.records, c.put_with_room.ensures.room);
         loaded = c.self.invariant.room.loaded;
+        mapped = c.self.invariant.room.mapped;
+        mounted = c.self.invariant.room.mounted;
+        opened = c.self.invariant.room.opened;
       };
     }
 
@@ -114,3 +122,6 @@ returns-clause-opens c =
     let opens = heir_opens (before c) c.args.name.now c.args.opts.now (heir c) (facts c) c.in-Ok.family (accepted c) (is_told c) c.self.invariant.sound in
     subst (λ (p : Plain). is_some (mkey ciphers p c.in_ok-id.id) ≡ true) (sym (made c))
     (subst (λ (id : ℕ). is_some (mkey ciphers (created_with (before c) c.args.name.now c.args.opts.now (facts c) false true) id) ≡ true) (sym c.in_ok-id.ensures.id) opens)
+
+pub invariant_of-self : goal.invariant_of-self
+invariant_of-self c = subst (λ (t : Datasets). IsKept (record c.self.inside { tree = t })) (sym c.in_err-id.ensures.same) c.self.invariant

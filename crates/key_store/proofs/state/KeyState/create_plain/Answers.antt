@@ -5,8 +5,10 @@ use Rattle.encryption_roots.specs.declared.command.KeyCmd.TheVariants as command
 use Rattle.key_machine.specs.Plain.{Plain}
 use Rattle.key_machine.specs.Create.{is_below_encrypted}
 use Rattle.key_machine.specs.Step.{refusal_of}
+use Rattle.key_machine.specs.Told.{nothing_told}
 use Rattle.key_machine.specs.Sound.{Sound}
 use Rattle.key_ciphers.specs.Ciphers.{ciphers}
+use Rattle.key_store.proofs.OpenedLemmas.{AreOpened, created_opened}
 use Rattle.key_store.specs.State.{plain_of}
 use Rattle.key_machine.proofs.CreateLawsStep.{free}
 use Rattle.key_store.proofs.RoomLemmas.{one_more_row}
@@ -30,9 +32,15 @@ invariant_of-self-2 c =
       records = c.self.invariant.records;
       sizes = c.self.invariant.sizes;
       props = c.self.invariant.props;
+      by_family = c.self.invariant.by_family;
+      opened = subst (λ (t : Datasets). AreOpened ciphers (record before { tree = t }) c.self.inside.opened.items) (sym c.in_ok-id.ensures.added)
+          (created_opened ciphers before c.args.name.now c.args.opts.now nothing_told false false c.self.inside.opened.items c.self.invariant.sound accepted c.self.invariant.opened);
       room = record {
         datasets = one_more_row before.tree c.add_free.new.tree c.args.name.now PlainKind c.in_ok-id.ensures.added (free before c.args.name.now c.args.opts.now accepted).rows;
         records = c.self.invariant.room.records;
         loaded = c.self.invariant.room.loaded;
+        mapped = c.self.invariant.room.mapped;
+        mounted = c.self.invariant.room.mounted;
+        opened = c.self.invariant.room.opened;
       };
     }

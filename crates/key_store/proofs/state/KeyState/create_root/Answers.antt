@@ -1,4 +1,4 @@
-use Rattle.std.proofs.Common.{◌≡◌, ◌<◌, ◌≤◌, ℕ, List, length, true, not, ◌&&◌, ◌||◌, false, is_some, None, refl, sym, ap, ◌∙◌, subst, arith}
+use Rattle.std.proofs.Common.{◌≡◌, ◌<◌, ◌≤◌, ℕ, List, length, true, not, ◌&&◌, ◌||◌, is_some, None, refl, sym, ap, ◌∙◌, subst, arith}
 use Rattle.std.proofs.lemmas.List.{length-map}
 use Rattle.std.specs.List.{All}
 use Rattle.dataset_tree.specs.declared.kinds.Kind.TheVariants.{Crypt}
@@ -18,11 +18,13 @@ use Rattle.key_machine.specs.Step.{refusal_of, told}
 use Rattle.key_machine.specs.Told.{Told}
 use Rattle.key_machine.proofs.CreateLawsCases.{created_with}
 use Rattle.key_machine.proofs.KeyLists.{All-with_id}
+use Rattle.dataset_tree.specs.Tree.{Datasets}
+use Rattle.key_store.proofs.OpenedLemmas.{AreOpened, created_opened}
 use Rattle.key_store.specs.declared.state.FamilyRecord.{FamilyRecord}
 use Rattle.key_ciphers.specs.Ciphers.{ciphers}
 use Rattle.key_store.specs.Calls.{stepped}
 use Rattle.key_store.specs.NewRoot.{IsToldRoot}
-use Rattle.key_store.specs.State.{plain_of, stored_of, stored_records}
+use Rattle.key_store.specs.State.{plain_of, stored_of, stored_records, IsKept}
 use Rattle.key_store.proofs.RecordLemmas.{rising_records, with_id-stored}
 use Rattle.key_store.proofs.RoomLemmas.{on_err, on_ok, one_more_row, roots_fit, loaded_fit}
 use Rattle.key_machine.proofs.CreateLawsStep.{IsFree, free}
@@ -108,10 +110,16 @@ invariant_of-self-2 c =
       records = subst (λ (records : List (ℕ × FamilyRecord)). All (λ entry. is_some (parsed_record entry.1.wrapped) ≡ true) records) (sym c.put_with_room.ensures.put) in_form;
       sizes = subst (λ (records : List (ℕ × FamilyRecord)). All (λ entry. IsRecordSize entry.1.block) records) (sym c.put_with_room.ensures.put) sizes;
       props = subst (λ (roots : List (ℕ × Props)). All (λ entry. KeepsIterations entry.1) roots) (sym (inserted c)) props;
+      by_family = c.self.invariant.by_family;
+      opened = subst (λ (p : Plain). AreOpened ciphers p c.self.inside.opened.items) (sym (made c))
+          (created_opened ciphers before c.args.name.now c.args.opts.now facts true true c.self.inside.opened.items c.self.invariant.sound (accepted_at c) c.self.invariant.opened);
       room = record {
         datasets = one_more_row before.tree c.add_free.new.tree c.args.name.now Crypt c.in_ok-id.ensures.added (free before c.args.name.now c.args.opts.now (accepted_at c)).rows;
         records = omega (arith, c.self.invariant.room.records, c.put_with_room.ensures.room);
         loaded = omega (arith, c.self.invariant.room.loaded, c.put_with_room-2.ensures.room);
+        mapped = c.self.invariant.room.mapped;
+        mounted = c.self.invariant.room.mounted;
+        opened = c.self.invariant.room.opened;
       };
     }
 
@@ -134,3 +142,6 @@ returns-clause-opens c =
     let opens = root_opens before c.args.name.now c.args.opts.now facts c.in_ok-root.root (accepted_at c) root (told_root c) c.args.kit.now refl c.self.invariant.sound in
     subst (λ (p : Plain). is_some (mkey ciphers p c.in_ok-id.id) ≡ true) (sym (made c))
     (subst (λ (id : ℕ). is_some (mkey ciphers (created_with before c.args.name.now c.args.opts.now facts true true) id) ≡ true) (sym c.in_ok-id.ensures.id) opens)
+
+pub invariant_of-self : goal.invariant_of-self
+invariant_of-self c = subst (λ (t : Datasets). IsKept (record c.self.inside { tree = t })) (sym c.in_err-id.ensures.same) c.self.invariant

@@ -1,10 +1,10 @@
-use Rattle.std.proofs.Common.{◌≡◌, true, is_some, Option, Some, Ok, Err, List, ℕ, sym, ap, ◌∙◌, subst, arith}
+use Rattle.std.proofs.Common.{◌≡◌, false, true, is_some, Option, Some, Ok, Err, List, ℕ, sym, ap, ◌∙◌, subst, arith}
 use Rattle.std.specs.List.{All}
 use Rattle.encryption_roots.specs.declared.props.Location.{Location}
 use Rattle.encryption_roots.specs.declared.command.KeyCmd.{KeyCmd}
 use Rattle.encryption_roots.specs.declared.command.KeyCmd.TheVariants as commands
 use Rattle.encryption_roots.specs.ById.{at_id, with_id}
-use Rattle.key_machine.specs.Plain.{Plain, is_root, owned}
+use Rattle.key_machine.specs.Plain.{Plain, is_root, is_loaded, owned}
 use Rattle.key_machine.specs.Load.{told_load, told_load_of}
 use Rattle.key_machine.specs.Reply.{Stepped, refused}
 use Rattle.key_machine.specs.Sound.{Sound}
@@ -13,6 +13,7 @@ use Rattle.key_machine.specs.Told.{key_of}
 use Rattle.key_machine.proofs.LoadLaws.{none_wrong, with_key_sound}
 use Rattle.key_machine.proofs.SoundLemmas.{refused_by_material}
 use Rattle.key_ciphers.specs.Ciphers.{ciphers}
+use Rattle.key_store.proofs.OpenedLemmas.{AreOpened, loaded_opened, load_absent}
 use Rattle.key_store.specs.State.{plain_of}
 use Rattle.key_store.specs.Calls.{key_told, stepped}
 use Rattle.key_store.proofs.LoadLemmas.{material_refuses, told_key_opens}
@@ -30,12 +31,18 @@ invariant_of-self c =
     let step_sound : Sound ciphers (record before { loaded = with_id root c.in-Ok-root_key.key before.loaded }) = with_key_sound ciphers before c.self.invariant.sound root c.in-Ok-root_key.key there opens in
     let keys_sound : Sound ciphers (record before { loaded = c.put_at_id.new.entries.items }) =
     subst (λ (keys : List (ℕ × List ℕ)). Sound ciphers (record before { loaded = keys })) (sym c.in_ok-put_at_id.ensures.ok) step_sound in
+    let loads : c.args.check_only ≡ false = c.if-not-check_only.true in
+    let absent : is_loaded before root ≡ false =
+    ap (λ (p : Plain). is_loaded p root) c.self.view_is ∙ load_absent c.args.self.now c.args.name.now root c.args.check_only c.in-Ok.ensures.0 c.in-Ok.ensures.1 loads in
     record {
       sound = keys_sound;
       records = c.self.invariant.records;
       sizes = c.self.invariant.sizes;
       props = c.self.invariant.props;
-      room = record { datasets = c.self.invariant.room.datasets; records = c.self.invariant.room.records; loaded = omega (arith, c.self.invariant.room.loaded, c.in_ok-put_at_id.ensures.room) };
+      by_family = c.self.invariant.by_family;
+      opened = subst (λ (keys : List (ℕ × List ℕ)). AreOpened ciphers (record before { loaded = keys }) c.self.inside.opened.items) (sym c.in_ok-put_at_id.ensures.ok)
+          (loaded_opened ciphers before root c.in-Ok-root_key.key c.self.inside.opened.items c.self.invariant.sound absent c.self.invariant.opened);
+      room = record { datasets = c.self.invariant.room.datasets; records = c.self.invariant.room.records; loaded = omega (arith, c.self.invariant.room.loaded, c.in_ok-put_at_id.ensures.room); mapped = c.self.invariant.room.mapped; mounted = c.self.invariant.room.mounted; opened = c.self.invariant.room.opened };
     }
 
 -- the step at the state that is seen

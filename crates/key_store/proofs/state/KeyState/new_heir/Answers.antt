@@ -1,5 +1,4 @@
-use Rattle.std.proofs.Common.{◌≡◌, ℕ, List, Option, Some, None, true, IfSome, is_some, refl, ap, sym, ◌∙◌, subst}
-use Rattle.std.specs.Prelude.{unwrap_or}
+use Rattle.std.proofs.Common.{◌≡◌, ℕ, List, true, is_some, ap, sym, ◌∙◌, subst}
 use Rattle.encryption_roots.specs.RecordSize.{IsRecordSize}
 use Rattle.key_machine.specs.Create.{new_suite, seeded_record}
 use Rattle.key_ciphers.specs.Ciphers.{ciphers}
