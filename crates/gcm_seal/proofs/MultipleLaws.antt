@@ -23,101 +23,130 @@ sum-shifted a b k =
 
 -- ---- the table
 
--- what holds at each number below 16
-sixteen_cases : (P : ℕ → Type 0) → P 0 → P 1 → P 2 → P 3 → P 4 → P 5 → P 6 → P 7 → P 8 → P 9 → P 10 → P 11 → P 12 → P 13 → P 14 → P 15
-    → (n : ℕ) → n < 16 → P n
-sixteen_cases P p0 p1 p2 p3 p4 p5 p6 p7 p8 p9 p10 p11 p12 p13 p14 p15 zero lt = p0
-sixteen_cases P p0 p1 p2 p3 p4 p5 p6 p7 p8 p9 p10 p11 p12 p13 p14 p15 (suc zero) lt = p1
-sixteen_cases P p0 p1 p2 p3 p4 p5 p6 p7 p8 p9 p10 p11 p12 p13 p14 p15 (suc (suc zero)) lt = p2
-sixteen_cases P p0 p1 p2 p3 p4 p5 p6 p7 p8 p9 p10 p11 p12 p13 p14 p15 (suc (suc (suc zero))) lt = p3
-sixteen_cases P p0 p1 p2 p3 p4 p5 p6 p7 p8 p9 p10 p11 p12 p13 p14 p15 (suc (suc (suc (suc zero)))) lt = p4
-sixteen_cases P p0 p1 p2 p3 p4 p5 p6 p7 p8 p9 p10 p11 p12 p13 p14 p15 (suc (suc (suc (suc (suc zero))))) lt = p5
-sixteen_cases P p0 p1 p2 p3 p4 p5 p6 p7 p8 p9 p10 p11 p12 p13 p14 p15 (suc (suc (suc (suc (suc (suc zero)))))) lt = p6
-sixteen_cases P p0 p1 p2 p3 p4 p5 p6 p7 p8 p9 p10 p11 p12 p13 p14 p15 (suc (suc (suc (suc (suc (suc (suc zero))))))) lt = p7
-sixteen_cases P p0 p1 p2 p3 p4 p5 p6 p7 p8 p9 p10 p11 p12 p13 p14 p15 (suc (suc (suc (suc (suc (suc (suc (suc zero)))))))) lt = p8
-sixteen_cases P p0 p1 p2 p3 p4 p5 p6 p7 p8 p9 p10 p11 p12 p13 p14 p15 (suc (suc (suc (suc (suc (suc (suc (suc (suc zero))))))))) lt = p9
-sixteen_cases P p0 p1 p2 p3 p4 p5 p6 p7 p8 p9 p10 p11 p12 p13 p14 p15 (suc (suc (suc (suc (suc (suc (suc (suc (suc (suc zero)))))))))) lt = p10
-sixteen_cases P p0 p1 p2 p3 p4 p5 p6 p7 p8 p9 p10 p11 p12 p13 p14 p15 (suc (suc (suc (suc (suc (suc (suc (suc (suc (suc (suc zero))))))))))) lt = p11
-sixteen_cases P p0 p1 p2 p3 p4 p5 p6 p7 p8 p9 p10 p11 p12 p13 p14 p15 (suc (suc (suc (suc (suc (suc (suc (suc (suc (suc (suc (suc zero)))))))))))) lt = p12
-sixteen_cases P p0 p1 p2 p3 p4 p5 p6 p7 p8 p9 p10 p11 p12 p13 p14 p15 (suc (suc (suc (suc (suc (suc (suc (suc (suc (suc (suc (suc (suc zero))))))))))))) lt = p13
-sixteen_cases P p0 p1 p2 p3 p4 p5 p6 p7 p8 p9 p10 p11 p12 p13 p14 p15 (suc (suc (suc (suc (suc (suc (suc (suc (suc (suc (suc (suc (suc (suc zero)))))))))))))) lt = p14
-sixteen_cases P p0 p1 p2 p3 p4 p5 p6 p7 p8 p9 p10 p11 p12 p13 p14 p15 (suc (suc (suc (suc (suc (suc (suc (suc (suc (suc (suc (suc (suc (suc (suc zero))))))))))))))) lt = p15
-sixteen_cases P p0 p1 p2 p3 p4 p5 p6 p7 p8 p9 p10 p11 p12 p13 p14 p15 (suc (suc (suc (suc (suc (suc (suc (suc (suc (suc (suc (suc (suc (suc (suc (suc n)))))))))))))))) lt = absurd (omega arith)
+-- what holds at each number below 8
+eight_cases : (P : ℕ → Type 0) → P 0 → P 1 → P 2 → P 3 → P 4 → P 5 → P 6 → P 7 → (n : ℕ) → n < 8 → P n
+eight_cases P p0 p1 p2 p3 p4 p5 p6 p7 zero lt = p0
+eight_cases P p0 p1 p2 p3 p4 p5 p6 p7 (suc zero) lt = p1
+eight_cases P p0 p1 p2 p3 p4 p5 p6 p7 (suc (suc zero)) lt = p2
+eight_cases P p0 p1 p2 p3 p4 p5 p6 p7 (suc (suc (suc zero))) lt = p3
+eight_cases P p0 p1 p2 p3 p4 p5 p6 p7 (suc (suc (suc (suc zero)))) lt = p4
+eight_cases P p0 p1 p2 p3 p4 p5 p6 p7 (suc (suc (suc (suc (suc zero))))) lt = p5
+eight_cases P p0 p1 p2 p3 p4 p5 p6 p7 (suc (suc (suc (suc (suc (suc zero)))))) lt = p6
+eight_cases P p0 p1 p2 p3 p4 p5 p6 p7 (suc (suc (suc (suc (suc (suc (suc zero))))))) lt = p7
+eight_cases P p0 p1 p2 p3 p4 p5 p6 p7 (suc (suc (suc (suc (suc (suc (suc (suc n)))))))) lt = absurd (omega arith)
 
 -- a sum of two values of a function that keeps sums
 two_values : (f : ℕ → ℕ) → KeepsSums f → (m n x y : ℕ) → x ≡ f m → y ≡ f n → x ⊕ y ≡ f (m ⊕ n)
 two_values f keeps m n x y ex ey = ap (λ (v : ℕ). v ⊕ y) ex ∙ ap (λ (v : ℕ). f m ⊕ v) ey ∙ sym (keeps m n)
 
--- the values below 16 of a function that keeps sums, from those of 8, 4, 2 and 1
-pub sixteen_values : (f : ℕ → ℕ) → KeepsSums f → (a b c d : ℕ) → a ≡ f 8 → b ≡ f 4 → c ≡ f 2 → d ≡ f 1 → (n : ℕ) → n < 16
-    → slice_index (0 ∷ d ∷ c ∷ (c ⊕ d) ∷ b ∷ (b ⊕ d) ∷ (b ⊕ c) ∷ (b ⊕ (c ⊕ d)) ∷ a ∷ (a ⊕ d) ∷ (a ⊕ c) ∷ (a ⊕ (c ⊕ d))
-    ∷ (a ⊕ b) ∷ (a ⊕ b ⊕ d) ∷ (a ⊕ b ⊕ c) ∷ (a ⊕ b ⊕ (c ⊕ d)) ∷ []) n ≡ f n
-sixteen_values f keeps a b c d ea eb ec ed n lt =
-    let low = two_values f keeps 2 1 c d ec ed in
-    let high = two_values f keeps 8 4 a b ea eb in
-    sixteen_cases (λ n. slice_index (0 ∷ d ∷ c ∷ (c ⊕ d) ∷ b ∷ (b ⊕ d) ∷ (b ⊕ c) ∷ (b ⊕ (c ⊕ d)) ∷ a ∷ (a ⊕ d) ∷ (a ⊕ c) ∷ (a ⊕ (c ⊕ d))
-    ∷ (a ⊕ b) ∷ (a ⊕ b ⊕ d) ∷ (a ⊕ b ⊕ c) ∷ (a ⊕ b ⊕ (c ⊕ d)) ∷ []) n ≡ f n)
-    (sym (KeepsSums-zero f keeps)) ed ec low
-    eb (two_values f keeps 4 1 b d eb ed) (two_values f keeps 4 2 b c eb ec) (two_values f keeps 4 3 b (c ⊕ d) eb low)
-    ea (two_values f keeps 8 1 a d ea ed) (two_values f keeps 8 2 a c ea ec) (two_values f keeps 8 3 a (c ⊕ d) ea low)
-    high (two_values f keeps 12 1 (a ⊕ b) d high ed) (two_values f keeps 12 2 (a ⊕ b) c high ec)
-    (two_values f keeps 12 3 (a ⊕ b) (c ⊕ d) high low)
-    n lt
+-- the values below 8 of a function that keeps sums, from those of 4, 2 and 1
+eight_values : (f : ℕ → ℕ) → KeepsSums f → (a b c : ℕ) → a ≡ f 4 → b ≡ f 2 → c ≡ f 1 → (n : ℕ) → n < 8
+    → slice_index (0 ∷ c ∷ b ∷ (b ⊕ c) ∷ a ∷ (a ⊕ c) ∷ (a ⊕ b) ∷ (a ⊕ b ⊕ c) ∷ []) n ≡ f n
+eight_values f keeps a b c ea eb ec n lt =
+    eight_cases (λ n. slice_index (0 ∷ c ∷ b ∷ (b ⊕ c) ∷ a ∷ (a ⊕ c) ∷ (a ⊕ b) ∷ (a ⊕ b ⊕ c) ∷ []) n ≡ f n)
+    (sym (KeepsSums-zero f keeps)) ec eb (two_values f keeps 2 1 b c eb ec)
+    ea (two_values f keeps 4 1 a c ea ec) (two_values f keeps 4 2 a b ea eb)
+    (two_values f keeps 6 1 (a ⊕ b) c (two_values f keeps 4 2 a b ea eb) ec) n lt
 
--- the half byte n at a place, as a function that keeps sums
-half_byte-sum : (h e : ℕ) → KeepsSums (λ n. product (n * 2 ^ e) h)
-half_byte-sum h e a b = ap (λ (x : ℕ). product x h) (sum-shifted a b e) ∙ product-left h (a * 2 ^ e) (b * 2 ^ e)
+-- the bits n from a place on, as a function that keeps sums
+bits-sum : (h e : ℕ) → KeepsSums (λ n. product (n * 2 ^ e) h)
+bits-sum h e a b = ap (λ (x : ℕ). product x h) (sum-shifted a b e) ∙ product-left h (a * 2 ^ e) (b * 2 ^ e)
 
--- one power of x in a half byte at a place
-power_in_half_byte : (h place i : ℕ) → place < 32 → i ≤ 3 → product (2 ^ i * 2 ^ (124 - 4 * place)) h ≡ v_at h (4 * place + (3 - i))
-power_in_half_byte h place i within below =
-    let e : ℕ = 124 - 4 * place in
-    let place_is : 127 - (i + e) ≡ 4 * place + (3 - i) = omega arith in
-    ap (λ (x : ℕ). product x h) (sym (pow-add 2 i e)) ∙ product_of_power (i + e) h (omega arith) ∙ ap (v_at h) place_is
+-- one power of x in three bits
+power_in_bits : (h i k : ℕ) → i ≤ 125 → k ≤ 2 → product (2 ^ k * 2 ^ (125 - i)) h ≡ v_at h (i + (2 - k))
+power_in_bits h i k within below =
+    let e : ℕ = 125 - i in
+    let place_is : 127 - (k + e) ≡ i + (2 - k) = omega arith in
+    ap (λ (x : ℕ). product x h) (sym (pow-add 2 k e)) ∙ product_of_power (k + e) h (omega arith) ∙ ap (v_at h) place_is
 
--- the sixteen multiples at a place, from v and its multiples by x, x^2 and x^3
-pub row_held : (h place a b c d : ℕ) → place < 32 → a ≡ v_at h (4 * place) → b ≡ v_at a 1 → c ≡ v_at b 1 → d ≡ v_at c 1 → (n : ℕ) → n < 16
-    → slice_index (0 ∷ d ∷ c ∷ (c ⊕ d) ∷ b ∷ (b ⊕ d) ∷ (b ⊕ c) ∷ (b ⊕ (c ⊕ d)) ∷ a ∷ (a ⊕ d) ∷ (a ⊕ c) ∷ (a ⊕ (c ⊕ d))
-    ∷ (a ⊕ b) ∷ (a ⊕ b ⊕ d) ∷ (a ⊕ b ⊕ c) ∷ (a ⊕ b ⊕ (c ⊕ d)) ∷ []) n ≡ product (n * 2 ^ (124 - 4 * place)) h
-row_held h place a b c d within ea eb ec ed n lt =
-    let e : ℕ = 124 - 4 * place in
-    let p = 4 * place in
-    let own : p ≡ p + 0 = omega arith in
-    let one : suc p ≡ p + 1 = omega arith in
-    let two : suc (p + 1) ≡ p + 2 = omega arith in
-    let three : suc (p + 2) ≡ p + 3 = omega arith in
-    let a_is : a ≡ v_at h (p + 0) = ea ∙ ap (v_at h) own in
-    let b_is : b ≡ v_at h (p + 1) = eb ∙ ap (λ (v : ℕ). v_at v 1) ea ∙ v_at-next h p ∙ ap (v_at h) one in
-    let c_is : c ≡ v_at h (p + 2) = ec ∙ ap (λ (v : ℕ). v_at v 1) b_is ∙ v_at-next h (p + 1) ∙ ap (v_at h) two in
-    let d_is : d ≡ v_at h (p + 3) = ed ∙ ap (λ (v : ℕ). v_at v 1) c_is ∙ v_at-next h (p + 2) ∙ ap (v_at h) three in
-    sixteen_values (λ n. product (n * 2 ^ e) h) (half_byte-sum h e) a b c d
-    (a_is ∙ sym (power_in_half_byte h place 3 within (omega arith)))
-    (b_is ∙ sym (power_in_half_byte h place 2 within (omega arith)))
-    (c_is ∙ sym (power_in_half_byte h place 1 within (omega arith)))
-    (d_is ∙ sym (power_in_half_byte h place 0 within (omega arith))) n lt
+-- the eight sums of v and its multiples by x and x^2
+pub eight_held : (h i a b c : ℕ) → i ≤ 125 → a ≡ v_at h i → b ≡ v_at a 1 → c ≡ v_at b 1 → (n : ℕ) → n < 8
+    → slice_index (0 ∷ c ∷ b ∷ (b ⊕ c) ∷ a ∷ (a ⊕ c) ∷ (a ⊕ b) ∷ (a ⊕ b ⊕ c) ∷ []) n ≡ product (n * 2 ^ (125 - i)) h
+eight_held h i a b c within ea eb ec n lt =
+    let own : i ≡ i + 0 = omega arith in
+    let one : suc i ≡ i + 1 = omega arith in
+    let two : suc (i + 1) ≡ i + 2 = omega arith in
+    let a_is : a ≡ v_at h (i + 0) = ea ∙ ap (v_at h) own in
+    let b_is : b ≡ v_at h (i + 1) = eb ∙ ap (λ (v : ℕ). v_at v 1) ea ∙ v_at-next h i ∙ ap (v_at h) one in
+    let c_is : c ≡ v_at h (i + 2) = ec ∙ ap (λ (v : ℕ). v_at v 1) b_is ∙ v_at-next h (i + 1) ∙ ap (v_at h) two in
+    eight_values (λ n. product (n * 2 ^ (125 - i)) h) (bits-sum h (125 - i)) a b c
+    (a_is ∙ sym (power_in_bits h i 2 within (omega arith)))
+    (b_is ∙ sym (power_in_bits h i 1 within (omega arith)))
+    (c_is ∙ sym (power_in_bits h i 0 within (omega arith))) n lt
 
--- four times x
-pub four_powers : (h i a b c d e : ℕ) → a ≡ v_at h i → b ≡ v_at a 1 → c ≡ v_at b 1 → d ≡ v_at c 1 → e ≡ v_at d 1 → e ≡ v_at h (i + 4)
-four_powers h i a b c d e ea eb ec ed ee =
-    let four : suc (suc (suc (suc i))) ≡ i + 4 = omega arith in
-    ee ∙ ap (λ (v : ℕ). v_at v 1) (ed ∙ ap (λ (v : ℕ). v_at v 1) (ec ∙ ap (λ (v : ℕ). v_at v 1) (eb ∙ ap (λ (v : ℕ). v_at v 1) ea ∙ v_at-next h i)
-    ∙ v_at-next h (suc i)) ∙ v_at-next h (suc (suc i))) ∙ v_at-next h (suc (suc (suc i))) ∙ ap (v_at h) four
+-- three times x, and three times x from a power on
+pub three_times : (v a b c : ℕ) → a ≡ v_at v 1 → b ≡ v_at a 1 → c ≡ v_at b 1 → c ≡ v_at v 3
+three_times v a b c ea eb ec =
+    ec ∙ ap (λ (y : ℕ). v_at y 1) (eb ∙ ap (λ (y : ℕ). v_at y 1) ea ∙ v_at-next v 1) ∙ v_at-next v 2
+
+pub three_more : (h i a b : ℕ) → a ≡ v_at h i → b ≡ v_at a 3 → b ≡ v_at h (i + 3)
+three_more h i a b ea eb =
+    let three : suc (suc (suc i)) ≡ i + 3 = omega arith in
+    let first : v_at a 1 ≡ v_at h (suc i) = ap (λ (y : ℕ). v_at y 1) ea ∙ v_at-next h i in
+    let second : v_at a 2 ≡ v_at h (suc (suc i)) = sym (v_at-next a 1) ∙ ap (λ (y : ℕ). v_at y 1) first ∙ v_at-next h (suc i) in
+    eb ∙ sym (v_at-next a 2) ∙ ap (λ (y : ℕ). v_at y 1) second ∙ v_at-next h (suc (suc i)) ∙ ap (v_at h) three
+
+-- the multiple of six bits is the sum of those of three bits each
+pub six_bits_held : (h place : ℕ) (high low : List ℕ) → place < 21
+    → ((n : ℕ) → n < 8 → slice_index high n ≡ product (n * 2 ^ (125 - (2 + 6 * place))) h)
+    → ((n : ℕ) → n < 8 → slice_index low n ≡ product (n * 2 ^ (125 - (2 + 6 * place + 3))) h)
+    → (n : ℕ) → n < 64 → slice_index high (n / 8) ⊕ slice_index low (n % 8) ≡ product (n * 2 ^ (120 - 6 * place)) h
+six_bits_held h place high low within highs lows n lt =
+    let e : ℕ = 120 - 6 * place in
+    let m = n / 2 ^ 3 in
+    let l = n % 2 ^ 3 in
+    let high_place : 125 - (2 + 6 * place) ≡ 3 + e = omega arith in
+    let low_place : 125 - (2 + 6 * place + 3) ≡ e = omega arith in
+    let moved : m * 2 ^ (3 + e) ≡ m * 2 ^ 3 * 2 ^ e = ap (λ (p : ℕ). m * p) (pow-add 2 3 e) ∙ sym (mul_assoc m (2 ^ 3) (2 ^ e)) in
+    let high_is : slice_index high m ≡ product (m * 2 ^ 3 * 2 ^ e) h =
+    highs m (omega arith) ∙ ap (λ (j : ℕ). product (m * 2 ^ j) h) high_place ∙ ap (λ (y : ℕ). product y h) moved in
+    let low_is : slice_index low l ≡ product (l * 2 ^ e) h = lows l (omega arith) ∙ ap (λ (j : ℕ). product (l * 2 ^ j) h) low_place in
+    let whole : (m * 2 ^ 3) ⊕ l ≡ n = xor_shifted m 3 l (mod_below n (2 ^ 3) (pow_pos 3)) ∙ shr_split n 3 in
+    ap (λ (y : ℕ). y ⊕ slice_index low l) high_is ∙ ap (λ (y : ℕ). product (m * 2 ^ 3 * 2 ^ e) h ⊕ y) low_is
+    ∙ sym (bits-sum h e (m * 2 ^ 3) l) ∙ ap (λ (y : ℕ). product (y * 2 ^ e) h) whole
+
+-- the multiples of the two bits at the left end
+four_cases : (P : ℕ → Type 0) → P 0 → P 1 → P 2 → P 3 → (n : ℕ) → n < 4 → P n
+four_cases P p0 p1 p2 p3 zero lt = p0
+four_cases P p0 p1 p2 p3 (suc zero) lt = p1
+four_cases P p0 p1 p2 p3 (suc (suc zero)) lt = p2
+four_cases P p0 p1 p2 p3 (suc (suc (suc zero))) lt = p3
+four_cases P p0 p1 p2 p3 (suc (suc (suc (suc n)))) lt = absurd (omega arith)
+
+pub front_held : (h once : ℕ) (rest : List ℕ) → once ≡ v_at h 1 → (n : ℕ) → n < 4
+    → slice_index (0 ∷ once ∷ h ∷ (h ⊕ once) ∷ rest) n ≡ product (n * 2 ^ 126) h
+unfolding v_at
+front_held h once rest e n lt =
+    let f : ℕ → ℕ = λ n. product (n * 2 ^ 126) h in
+    let own : h ≡ f 2 = sym (product_of_power 127 h (omega arith)) in
+    let next : once ≡ f 1 = e ∙ sym (product_of_power 126 h (omega arith)) in
+    four_cases (λ n. slice_index (0 ∷ once ∷ h ∷ (h ⊕ once) ∷ rest) n ≡ product (n * 2 ^ 126) h)
+    (sym (KeepsSums-zero f (bits-sum h 126))) next own (two_values f (bits-sum h 126) 2 1 h once own next) n lt
 
 -- the rows of the places so far, and one more
-pub rows_held : (h place : ℕ) (table row : List ℕ) → length table ≡ 512 → place < 32 → length row ≡ 16
-    → ((p n : ℕ) → p < place → n < 16 → slice_index table (16 * p + n) ≡ product (n * 2 ^ (124 - 4 * p)) h)
-    → ((n : ℕ) → n < 16 → slice_index row n ≡ product (n * 2 ^ (124 - 4 * place)) h)
-    → (p n : ℕ) → p < place + 1 → n < 16 → slice_index (over_part 16 table row (16 * place)) (16 * p + n) ≡ product (n * 2 ^ (124 - 4 * p)) h
+pub rows_held : (h place : ℕ) (table row : List ℕ) → length table ≡ 1348 → place < 21 → length row ≡ 64
+    → ((p n : ℕ) → p < place → n < 64 → slice_index table (4 + 64 * p + n) ≡ product (n * 2 ^ (120 - 6 * p)) h)
+    → ((n : ℕ) → n < 64 → slice_index row n ≡ product (n * 2 ^ (120 - 6 * place)) h)
+    → (p n : ℕ) → p < place + 1 → n < 64
+    → slice_index (over_part 64 table row (4 + 64 * place)) (4 + 64 * p + n) ≡ product (n * 2 ^ (120 - 6 * p)) h
 rows_held h place table row size within long done own p n lt below =
+    let start : ℕ = 4 + 64 * place in
     elim (cases_lt p place) [
-      | inl less ↦ over_part-below 16 512 table row (16 * place) (16 * p + n) size (omega arith) (omega arith) ∙ done p n less below
+      | inl less ↦ over_part-below 64 1348 table row start (4 + 64 * p + n) size (omega arith) (omega arith) ∙ done p n less below
       | inr ge ↦
           let same : p ≡ place = omega arith in
-          let at : 16 * place + n - 16 * place ≡ n = omega arith in
-          ap (λ (q : ℕ). slice_index (over_part 16 table row (16 * place)) (16 * q + n)) same
-          ∙ over_part-within 16 512 table row (16 * place) (16 * place + n) size (omega arith) long (omega arith) (omega arith)
-          ∙ ap (slice_index row) at ∙ own n below ∙ ap (λ (q : ℕ). product (n * 2 ^ (124 - 4 * q)) h) (sym same)
+          let at : start + n - start ≡ n = omega arith in
+          ap (λ (q : ℕ). slice_index (over_part 64 table row start) (4 + 64 * q + n)) same
+          ∙ over_part-within 64 1348 table row start (start + n) size (omega arith) long (omega arith) (omega arith)
+          ∙ ap (slice_index row) at ∙ own n below ∙ ap (λ (q : ℕ). product (n * 2 ^ (120 - 6 * q)) h) (sym same)
     ]
+
+-- what stands in front of a row is kept
+pub front_kept : (h place : ℕ) (table row : List ℕ) → length table ≡ 1348 → place < 21
+    → ((n : ℕ) → n < 4 → slice_index table n ≡ product (n * 2 ^ 126) h)
+    → (n : ℕ) → n < 4 → slice_index (over_part 64 table row (4 + 64 * place)) n ≡ product (n * 2 ^ 126) h
+front_kept h place table row size within done n lt =
+    over_part-below 64 1348 table row (4 + 64 * place) n size (omega arith) (omega arith) ∙ done n lt
 
 -- x times a block by the test that the code makes
 pub times_x_even : (v : ℕ) → bit_and v 1 ≡ 0 → v_at v 1 ≡ v / 2
@@ -192,15 +221,15 @@ half_byte_added x h front back t k from below e held =
     ap (λ (j : ℕ). wide_value (front ⊕ t / 2 ^ (4 * k)) (back ⊕ t * 2 ^ j % 2 ^ 128)) high
     ∙ digit_added x h front back t m (4 * k) 4 (omega arith) is_t (held ∙ ap (λ (j : ℕ). product (x / 2 ^ j * 2 ^ j) h) high)
 
--- the same by a table with a half byte's multiples at each place
-pub place_added : (x h sum place : ℕ) → place < 32 → sum ≡ product (x / 2 ^ (128 - 4 * place) * 2 ^ (128 - 4 * place)) h
-    → sum ⊕ product (bit_and (x / 2 ^ (124 - 4 * place)) 15 * 2 ^ (124 - 4 * place)) h ≡ product (x / 2 ^ (124 - 4 * place) * 2 ^ (124 - 4 * place)) h
+-- the same by a table with the multiples of six bits at each place
+pub place_added : (x h sum place : ℕ) → place < 21 → sum ≡ product (x / 2 ^ (126 - 6 * place) * 2 ^ (126 - 6 * place)) h
+    → sum ⊕ product (bit_and (x / 2 ^ (120 - 6 * place)) 63 * 2 ^ (120 - 6 * place)) h ≡ product (x / 2 ^ (120 - 6 * place) * 2 ^ (120 - 6 * place)) h
 place_added x h sum place within held =
-    let m : ℕ = 124 - 4 * place in
-    let high : 128 - 4 * place ≡ m + 4 = omega arith in
-    ap (λ (y : ℕ). sum ⊕ product (y * 2 ^ m) h) (and_mask (x / 2 ^ m) 4)
-    ∙ ap (λ (y : ℕ). y ⊕ product (x / 2 ^ m % 2 ^ 4 * 2 ^ m) h) (held ∙ ap (λ (j : ℕ). product (x / 2 ^ j * 2 ^ j) h) high)
-    ∙ sym (product-left h (x / 2 ^ (m + 4) * 2 ^ (m + 4)) (x / 2 ^ m % 2 ^ 4 * 2 ^ m)) ∙ ap (λ (y : ℕ). product y h) (front_more x m 4)
+    let m : ℕ = 120 - 6 * place in
+    let high : 126 - 6 * place ≡ m + 6 = omega arith in
+    ap (λ (y : ℕ). sum ⊕ product (y * 2 ^ m) h) (and_mask (x / 2 ^ m) 6)
+    ∙ ap (λ (y : ℕ). y ⊕ product (x / 2 ^ m % 2 ^ 6 * 2 ^ m) h) (held ∙ ap (λ (j : ℕ). product (x / 2 ^ j * 2 ^ j) h) high)
+    ∙ sym (product-left h (x / 2 ^ (m + 6) * 2 ^ (m + 6)) (x / 2 ^ m % 2 ^ 6 * 2 ^ m)) ∙ ap (λ (y : ℕ). product y h) (front_more x m 6)
 
 pub wide_of_front : (front : ℕ) → wide_value front 0 ≡ front
 wide_of_front front = ap (λ (y : ℕ). front ⊕ y) (product-zero r_block) ∙ xor_zero_r front

@@ -4,7 +4,7 @@ ghost use Rattle.std.specs.Prelude.{◌≡◌, ◌≤◌, ◌-◌, ◌%◌, ◌+
 ghost use Rattle.gcm_seal.specs.Gcm.{ghash, hash_input, ghash_value, padded, lengths_block, number_of};
 ghost use Rattle.gcm_seal.specs.Multiples.{HasMultiples};
 
-use crate::product::{multiply, put_multiples};
+use crate::product::{MULTIPLES_LEN, multiply, put_multiples};
 use crate::{BLOCK_LEN, MAX_AAD_LEN, MAX_TEXT_LEN};
 use byte_blocks::block_at;
 
@@ -14,7 +14,7 @@ pub fn hash(hash_subkey: [u8; 16], aad: &[u8], sealed: &[u8]) -> [u8; 16]
     requires sealed_length { length sealed.now ≤ MAX_TEXT_LEN }
     ensures { result ≡ ghash hash_subkey (hash_input aad.now sealed.now) }
 {
-    let mut multiples = [0; 512];
+    let mut multiples = [0; MULTIPLES_LEN];
     put_multiples(&mut multiples, u128::from_be_bytes(hash_subkey));
     let after_aad = absorb(0, &multiples, aad);
     let after_sealed = absorb(after_aad, &multiples, sealed);
@@ -22,7 +22,7 @@ pub fn hash(hash_subkey: [u8; 16], aad: &[u8], sealed: &[u8]) -> [u8; 16]
 }
 
 // The state of GHASH after some blocks `x`, taken on by the padded `bytes`.
-fn absorb(state: u128, multiples: &[u128; 512], bytes: &[u8]) -> u128
+fn absorb(state: u128, multiples: &[u128; MULTIPLES_LEN], bytes: &[u8]) -> u128
     ensures { (h : ℕ) (x : List ℕ) → HasMultiples multiples.now h → length x % 16 ≡ 0
         → state ≡ ghash_value h x → result ≡ ghash_value h (x ++ padded bytes.now) }
 {

@@ -3,7 +3,7 @@
 
 ghost use Rattle.std.specs.Prelude.{◌≡◌, ◌≤◌, ◌<◌, ◌+◌, ◌-◌, ◌*◌, ◌/◌, ◌^◌, ℕ, bit_xor, slice_index};
 ghost use Rattle.gcm_seal.specs.Gcm.{product, r_block, v_at};
-ghost use Rattle.gcm_seal.specs.Multiples.{HasMultiples, wide_value};
+ghost use Rattle.gcm_seal.specs.Multiples.{HasMultiples};
 
 use std::marker::Model;
 
@@ -32,47 +32,84 @@ fn times_x(v: u128) -> u128
     if v & 1 == 0 { v >> 1 } else { (v >> 1) ^ R }
 }
 
-// Fills the table with the multiples of h by each half byte at each place in a block. Those of a
-// place stand one after the other, the first place's first.
-pub fn put_multiples(table: &mut [u128; 512], h: u128)
+// The multiples in a table: four of the two highest bits of a block, and 64 of each six bits that
+// follow.
+pub const MULTIPLES_LEN: usize = 1348;
+
+// x^3 times a block.
+#[inline(always)]
+fn times_x3(v: u128) -> u128
+    ensures { result ≡ v_at v 3 }
+{
+    times_x(times_x(times_x(v)))
+}
+
+// Fills the table with the multiples of h by each two bits and each six bits at their place in a
+// block. Those of a place stand one after the other, the highest bits' first.
+pub fn put_multiples(table: &mut [u128; MULTIPLES_LEN], h: u128)
     ensures { HasMultiples table.new h }
 {
-    let mut power = h;
-    for place in 0..32 {
-        table[16 * place..16 * place + 16].copy_from_slice(&row(power));
-        power = times_x(times_x(times_x(times_x(power))));
+    let once = times_x(h);
+    table[..4].copy_from_slice(&[0, once, h, h ^ once]);
+    let mut power = times_x(once);
+    for place in 0..21 {
+        let start = 4 + 64 * place;
+        table[start..start + 64].copy_from_slice(&row(power));
+        power = times_x3(times_x3(power));
     }
 }
 
-// The sums of `v` and its multiples by x, x^2 and x^3, at the numbers whose bits say what is added,
-// the highest for `v`.
+// The sums of `v` and its multiples by x to x^5, at the numbers whose bits say what is added, the
+// highest for `v`.
+fn row(v: u128) -> [u128; 64]
+    ensures { (h place n : ℕ) → place < 21 → v ≡ v_at h (2 + 6 * place) → n < 64
+        → slice_index result n ≡ product (n * 2 ^ (120 - 6 * place)) h }
+{
+    let high = eight_sums(v);
+    let low = eight_sums(times_x3(v));
+    let mut sums = [0; 64];
+    for n in 0..8 {
+        sums[8 * n..8 * n + 8].copy_from_slice(&added(high[n], &low));
+    }
+    sums
+}
+
+// The sums of `v` and each of eight.
 #[inline(always)]
-fn row(v: u128) -> [u128; 16]
-    ensures { (h place n : ℕ) → place < 32 → v ≡ v_at h (4 * place) → n < 16
-        → slice_index result n ≡ product (n * 2 ^ (124 - 4 * place)) h }
+fn added(v: u128, sums: &[u128; 8]) -> [u128; 8]
+    ensures { (n : ℕ) → n < 8 → slice_index result n ≡ bit_xor v (slice_index sums.now n) }
+{
+    [
+        v ^ sums[0],
+        v ^ sums[1],
+        v ^ sums[2],
+        v ^ sums[3],
+        v ^ sums[4],
+        v ^ sums[5],
+        v ^ sums[6],
+        v ^ sums[7],
+    ]
+}
+
+// The sums of `v` and its multiples by x and x^2, at the numbers whose bits say what is added, the
+// highest for `v`.
+#[inline(always)]
+fn eight_sums(v: u128) -> [u128; 8]
+    ensures { (h i n : ℕ) → i ≤ 125 → v ≡ v_at h i → n < 8
+        → slice_index result n ≡ product (n * 2 ^ (125 - i)) h }
 {
     let once = times_x(v);
     let twice = times_x(once);
-    let thrice = times_x(twice);
     let high = v ^ once;
-    let low = twice ^ thrice;
     [
         0,
-        thrice,
         twice,
-        low,
         once,
-        once ^ thrice,
         once ^ twice,
-        once ^ low,
         v,
-        v ^ thrice,
         v ^ twice,
-        v ^ low,
         high,
-        high ^ thrice,
         high ^ twice,
-        high ^ low,
     ]
 }
 
@@ -84,26 +121,27 @@ macro_rules! each_place {
     };
 }
 
-// The product of x and h, by the multiples of h, one for each half byte of x.
-pub fn multiply(x: u128, multiples: &[u128; 512]) -> u128
+// The product of x and h, by the multiples of h, one for the two highest bits of x and one for each
+// six bits that follow.
+pub fn multiply(x: u128, multiples: &[u128; MULTIPLES_LEN]) -> u128
     ensures { (h : ℕ) → HasMultiples multiples.now h → result ≡ product x h }
 {
     each_place!(
-        0, x, multiples;
-        0 1 2 3 4 5 6 7 8 9 10 11 12 13 14 15 16 17 18 19 20 21 22 23 24 25 26 27 28 29 30 31
+        multiples[(x >> 126) as usize], x, multiples;
+        0 1 2 3 4 5 6 7 8 9 10 11 12 13 14 15 16 17 18 19 20
     )
 }
 
-// The multiples of the half bytes of x before a place, and that of the one at it.
+// The multiples of the bits of x before a place, and that of the six at it.
 #[inline(always)]
-fn with_multiple(sum: u128, x: u128, place: u32, multiples: &[u128; 512]) -> u128
-    requires { place < 32 }
+fn with_multiple(sum: u128, x: u128, place: u32, multiples: &[u128; MULTIPLES_LEN]) -> u128
+    requires { place < 21 }
     ensures { (h : ℕ) → HasMultiples multiples.now h
-        → sum ≡ product (x / 2 ^ (128 - 4 * place) * 2 ^ (128 - 4 * place)) h
-        → result ≡ product (x / 2 ^ (124 - 4 * place) * 2 ^ (124 - 4 * place)) h }
+        → sum ≡ product (x / 2 ^ (126 - 6 * place) * 2 ^ (126 - 6 * place)) h
+        → result ≡ product (x / 2 ^ (120 - 6 * place) * 2 ^ (120 - 6 * place)) h }
 {
-    let half_byte = x >> (124 - 4 * place) & 0xf;
-    sum ^ multiples[16 * place as usize + half_byte as usize]
+    let six_bits = x >> (120 - 6 * place) & 0x3f;
+    sum ^ multiples[4 + 64 * place as usize + six_bits as usize]
 }
 
 // The coefficients from x^128 on, brought below it: x^128 is 1 + x + x^2 + x^7.

@@ -6,13 +6,15 @@ const TEXT: &[u8; 38] = b"two whole blocks and a part of a third";
 
 // From another implementation, under the key of the bytes 0 to 23 and the initialization vector of
 // the bytes 100 to 111.
-const SEALED: &[u8; 38] =
-    b"\x9d\x1f\xd4\x5c\x25\xc7\x61\x54\xb6\xf1\x80\x6d\x95\x91\xf0\xcd\xfd\x38\x30\xae\xda\xe8\x51\x9f\xe0\x31\x3c\xea\xd9\x08\xb8\x21\x7a\x20\x6f\xf6\x2a\x71";
+const SEALED: &[u8; 38] = b"\x9d\x1f\xd4\x5c\x25\xc7\x61\x54\xb6\xf1\x80\x6d\x95\x91\xf0\xcd\
+      \xfd\x38\x30\xae\xda\xe8\x51\x9f\xe0\x31\x3c\xea\xd9\x08\xb8\x21\
+      \x7a\x20\x6f\xf6\x2a\x71";
 
 // The end of 300 bytes sealed by another implementation, under the key of the bytes 0 to 31 and the
 // same initialization vector.
-const LONG_TAIL: &[u8; 48] =
-    b"\xc6\xd5\x08\x62\x77\x74\x84\x95\x61\x0a\xbe\xe7\x85\x37\x90\xc9\xac\xfd\x7c\x79\xd8\xfc\x33\xaf\x29\xac\xea\xc4\x71\xec\xf0\xef\xab\xb1\x96\xaa\x33\x13\xfb\x9e\x84\x66\xb7\xf9\x78\x87\x70\xb1";
+const LONG_TAIL: &[u8; 48] = b"\xc6\xd5\x08\x62\x77\x74\x84\x95\x61\x0a\xbe\xe7\x85\x37\x90\xc9\
+      \xac\xfd\x7c\x79\xd8\xfc\x33\xaf\x29\xac\xea\xc4\x71\xec\xf0\xef\
+      \xab\xb1\x96\xaa\x33\x13\xfb\x9e\x84\x66\xb7\xf9\x78\x87\x70\xb1";
 
 #[test]
 fn zero_keys(rt: HostRuntime) {
@@ -93,7 +95,7 @@ fn products_of_blocks(rt: HostRuntime) {
     let x = 0x0388_dace_60b6_a392_f328_c2b9_71b2_fe78;
     let expected = 0x5e2e_c746_9170_6288_2c85_b068_5353_deb7;
     assert_eq!(rt; product::multiply_by_steps(x, h), expected);
-    let mut multiples = [0; 512];
+    let mut multiples = [0; product::MULTIPLES_LEN];
     product::put_multiples(&mut multiples, h);
     assert_eq!(rt; product::multiply(x, &multiples), expected);
     let mut looks = 5;

@@ -1,13 +1,11 @@
-use Rattle.std.proofs.Common.{◌≡◌, ℕ, ◌*◌, ◌/◌, ◌^◌, sym, ap, ◌∙◌, arith}
+use Rattle.std.proofs.Common.{◌≡◌, ℕ, ◌*◌, ◌/◌, ◌^◌, ap, ◌∙◌, arith}
 use Rattle.gcm_seal.specs.Gcm.{product}
-use Rattle.gcm_seal.proofs.ProductLaws.{product-zero}
 use Rattle.gcm_seal.proofs.product.multiply.Goals as goal
 
 pub returns : goal.returns
 returns c = λ h has.
     let x = c.args.x in
-    let none : x / 2 ^ 128 * 2 ^ 128 ≡ 0 = omega arith in
-    let s1 = c.with_multiple.ensures h has (sym (ap (λ (y : ℕ). product y h) none ∙ product-zero h)) in
+    let s1 = c.with_multiple.ensures h has (has.front (x / 2 ^ 126) (omega arith)) in
     let s2 = c.with_multiple-2.ensures h has s1 in
     let s3 = c.with_multiple-3.ensures h has s2 in
     let s4 = c.with_multiple-4.ensures h has s3 in
@@ -28,16 +26,5 @@ returns c = λ h has.
     let s19 = c.with_multiple-19.ensures h has s18 in
     let s20 = c.with_multiple-20.ensures h has s19 in
     let s21 = c.with_multiple-21.ensures h has s20 in
-    let s22 = c.with_multiple-22.ensures h has s21 in
-    let s23 = c.with_multiple-23.ensures h has s22 in
-    let s24 = c.with_multiple-24.ensures h has s23 in
-    let s25 = c.with_multiple-25.ensures h has s24 in
-    let s26 = c.with_multiple-26.ensures h has s25 in
-    let s27 = c.with_multiple-27.ensures h has s26 in
-    let s28 = c.with_multiple-28.ensures h has s27 in
-    let s29 = c.with_multiple-29.ensures h has s28 in
-    let s30 = c.with_multiple-30.ensures h has s29 in
-    let s31 = c.with_multiple-31.ensures h has s30 in
-    let s32 = c.with_multiple-32.ensures h has s31 in
     let whole : x / 2 ^ 0 * 2 ^ 0 ≡ x = omega arith in
-    s32 ∙ ap (λ (y : ℕ). product y h) whole
+    s21 ∙ ap (λ (y : ℕ). product y h) whole

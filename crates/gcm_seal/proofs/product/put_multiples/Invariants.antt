@@ -4,7 +4,8 @@ use Rattle.gcm_seal.proofs.product.put_multiples.Given as goal
 
 abbrev pub invariant-loop-place : goal.invariant-loop-place
 invariant-loop-place l = record {
-  size : length l.table ≡ 512;
-  power : l.power ≡ v_at l.h (4 * l.place);
-  done : (place n : ℕ) → place < l.place → n < 16 → slice_index l.table (16 * place + n) ≡ product (n * 2 ^ (124 - 4 * place)) l.h;
+  size : length l.table ≡ 1348;
+  power : l.power ≡ v_at l.h (2 + 6 * l.place);
+  front : (n : ℕ) → n < 4 → slice_index l.table n ≡ product (n * 2 ^ 126) l.h;
+  done : (place n : ℕ) → place < l.place → n < 64 → slice_index l.table (4 + 64 * place + n) ≡ product (n * 2 ^ (120 - 6 * place)) l.h;
 }
