@@ -1,0 +1,4 @@
+pub mod ActLemmas
+pub mod MadeLemmas
+pub mod HeldLemmas
+pub mod IdLemmas

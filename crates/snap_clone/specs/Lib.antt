@@ -1,0 +1,4 @@
+pub mod Answers
+pub mod Acts
+pub mod Sample
+pub mod Ids
