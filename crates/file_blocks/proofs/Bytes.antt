@@ -16,7 +16,7 @@ use Rattle.file_blocks.specs.Objects.{text_at, texts_at, collected, filled, bloc
 use Rattle.file_blocks.proofs.Ranges.{length-filled, reaches}
 
 -- what was collected has all of them
-collected_at : {X E : Type 0} (f : ℕ → Result X E) (first n : ℕ) (ys : List X) (k : ℕ) (d : X) → collected (map f (range_with_len first n)) ≡ Ok ys → k < n
+pub collected_at : {X E : Type 0} (f : ℕ → Result X E) (first n : ℕ) (ys : List X) (k : ℕ) (d : X) → collected (map f (range_with_len first n)) ≡ Ok ys → k < n
     → f (first + k) ≡ Ok (get_or ys k d)
 collected_at f first zero ys k d is within = absurd (omega (arith, within))
 collected_at {X = X} {E = E} f first (suc n) ys k d is within =
@@ -76,7 +76,7 @@ module _ {X : Type 0} (f : X → List ℕ) (width : ℕ) (wide : (x : X) → len
       ∙ get_or-append-add (f x) (flat_map f xs) (width * k + r) 0
       ∙ joined_at xs k r d (omega (arith, low)) within
 
-filled_at : (n : ℕ) (bytes : List ℕ) (r : ℕ) → r < n → get_or (filled n bytes) r 0 ≡ get_or bytes r 0
+pub filled_at : (n : ℕ) (bytes : List ℕ) (r : ℕ) → r < n → get_or (filled n bytes) r 0 ≡ get_or bytes r 0
 unfolding filled
 filled_at n bytes r within = by_size (cases_lt r (length bytes))
   where
@@ -123,7 +123,7 @@ module _ (key : KeyValue) (held : List (List ℕ)) (record_size : ℕ) (tree : O
   width_of : (stored : Option (List ℕ)) → length (block_bytes record_size stored) ≡ record_size
   width_of stored = length-filled record_size (option_map_or (λ text. text) stored [])
 
-  texts_of : object_range key held record_size tree from end ≡ Ok bytes
+  pub texts_of : object_range key held record_size tree from end ≡ Ok bytes
       → (texts : List (Option (List ℕ))) × (texts_at key held record_size tree (from / record_size) (count_touched record_size from end) ≡ Ok texts)
       × (bytes ≡ part_of record_size from end texts)
   unfolding object_range
@@ -142,7 +142,7 @@ module _ (key : KeyValue) (held : List (List ℕ)) (record_size : ℕ) (tree : O
   unfolding texts_at
   texts_long texts are = collected_long (text_at key held record_size tree) (from / record_size) (count_touched record_size from end) texts are
 
-  text_in : (texts : List (Option (List ℕ))) → texts_at key held record_size tree (from / record_size) (count_touched record_size from end) ≡ Ok texts
+  pub text_in : (texts : List (Option (List ℕ))) → texts_at key held record_size tree (from / record_size) (count_touched record_size from end) ≡ Ok texts
       → (k : ℕ) → k < count_touched record_size from end → text_at key held record_size tree (from / record_size + k) ≡ Ok (get_or texts k None)
   unfolding texts_at
   text_in texts are k within = collected_at (text_at key held record_size tree) (from / record_size) (count_touched record_size from end) texts k None are within

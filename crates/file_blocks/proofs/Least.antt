@@ -27,7 +27,7 @@ pub record FirstErr {X E : Type 0} (f : ℕ → Result X E) (first n : ℕ) (fai
   pub fails : f (first + at) ≡ Err failed
   pub before : (j : ℕ) → j < at → (other : E) → f (first + j) ≡ Err other → ⊥
 
-first_err : {X E : Type 0} (f : ℕ → Result X E) (first n : ℕ) (failed : E) → collected (map f (range_with_len first n)) ≡ Err failed → FirstErr f first n failed
+pub first_err : {X E : Type 0} (f : ℕ → Result X E) (first n : ℕ) (failed : E) → collected (map f (range_with_len first n)) ≡ Err failed → FirstErr f first n failed
 first_err f first zero failed is = absurd (cc)
 first_err {X = X} {E = E} f first (suc n) failed is =
     by_one (f first) refl (collected (map f (range_with_len (first + 1) n))) refl (first_err f (first + 1) n failed) is

@@ -5,3 +5,14 @@ pub mod Ranges
 pub mod Loops
 pub mod Least
 pub mod Bytes
+pub mod Sealing
+pub mod Changing
+pub mod NewTexts
+pub mod Taking
+pub mod WriteReading
+pub mod Texts
+pub mod Passing
+pub mod Composing
+pub mod Stored
+pub mod WrittenBytes
+pub mod WrittenRanges

@@ -15,7 +15,7 @@ use mir.Val.{bool_byte}
 use Rattle.file_blocks.proofs.Readings.{reading_none, reading_more, reading_to, reading_ok, reading_err, reading_full, held_before, at_in_range}
 use Rattle.file_blocks.proofs.Ranges.{ReadSoFar, read_begun, read_more, read_stopped, read_ended, touched, reaches, step_bound, TestedSoFar, tested_begun, tested_more, tested_stopped}
 
-for_each_held : (held : Option (List (List ℕ))) {P : List (List ℕ) → Type 0} → ((h : List (List ℕ)) → P h) → IfSome held P
+pub for_each_held : (held : Option (List (List ℕ))) {P : List (List ℕ) → Type 0} → ((h : List (List ℕ)) → P h) → IfSome held P
 for_each_held None each = tt
 for_each_held (Some h) each = each h
 

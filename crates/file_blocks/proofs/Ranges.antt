@@ -24,7 +24,7 @@ use Rattle.file_blocks.specs.Objects.{blocks_for, Gives, text_at, texts_at, coll
 
 -- ---- what is collected
 
-one_more : {X E : Type 0} (xs : List (Result X E)) (ys : List X) (y : X) → collected xs ≡ Ok ys → collected (xs ++ Ok y ∷ []) ≡ Ok (ys ++ y ∷ [])
+pub one_more : {X E : Type 0} (xs : List (Result X E)) (ys : List X) (y : X) → collected xs ≡ Ok ys → collected (xs ++ Ok y ∷ []) ≡ Ok (ys ++ y ∷ [])
 one_more [] ys y is = let e : [] ≡ ys = cc in rw (sym e) refl
 one_more (Err failed ∷ xs) ys y is = absurd (cc)
 one_more {X = X} {E = E} (Ok x ∷ xs) ys y is = by_rest (collected xs) refl (λ zs same. one_more xs zs y same) is
@@ -37,7 +37,7 @@ one_more {X = X} {E = E} (Ok x ∷ xs) ys y is = by_rest (collected xs) refl (λ
         rw (later zs same, sym e) refl
     by_rest (Err failed) same later is = absurd (cc)
 
-stops_at : {X E : Type 0} (f : ℕ → Result X E) (first k n : ℕ) (ys : List X) (failed : E) → k < n → collected (map f (range_with_len first k)) ≡ Ok ys
+pub stops_at : {X E : Type 0} (f : ℕ → Result X E) (first k n : ℕ) (ys : List X) (failed : E) → k < n → collected (map f (range_with_len first k)) ≡ Ok ys
     → f (first + k) ≡ Err failed → collected (map f (range_with_len first n)) ≡ Err failed
 stops_at f first k zero ys failed within front fails = absurd (omega (arith, within))
 stops_at f first zero (suc n) ys failed within front fails =

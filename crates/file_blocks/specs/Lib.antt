@@ -1,2 +1,7 @@
+pub mod ChangeFields
+pub mod Changes
 pub mod Objects
+pub mod Outcomes
 pub mod Places
+pub mod WriteFields
+pub mod Writes

@@ -8,7 +8,7 @@ use block_crypt::{BlockKey, MAX_BLOCK_LEN, Sealed, open_block};
 use indirect_macs::{BlockRef, MacError, ObjTree, lookup};
 use shelf_store::{Failed, Shelf};
 
-fn fails_at(index: u32) -> MacError
+pub(crate) fn fails_at(index: u32) -> MacError
     ensures { result ≡ MacError.MacFailed 0 index }
 {
     MacError::MacFailed { level: 0, index }

@@ -6,15 +6,31 @@
 #![tactic(auto)]
 
 mod block;
+mod change;
 mod laws;
+mod new_texts;
 mod object;
+mod pieces;
+mod put;
 mod read;
+mod taken;
+mod text;
+mod write;
+mod write_error;
+mod writes;
 
+pub use change::Wrote;
 pub use laws::{
-    bytes_by_hand, ranges_have_the_bytes_of_their_blocks, reads_stop_at_the_least_place_that_fails,
+    bytes_by_hand, changes_store_their_texts_alone, cuts_keep_what_stays,
+    ranges_have_the_bytes_of_their_blocks, reads_stop_at_the_least_place_that_fails,
+    writes_change_their_bytes_alone,
 };
 pub use object::Object;
 pub use read::{read_range, test_blocks};
+pub use write_error::WriteError;
+pub use writes::{cut_to, write_range};
 
 #[cfg(test)]
 mod tests;
+#[cfg(test)]
+mod write_tests;

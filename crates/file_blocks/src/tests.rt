@@ -60,7 +60,7 @@ fn node() -> [u8; 1568] {
 }
 
 // A master key of the bytes from 128 on.
-fn master_key() -> MasterKey {
+pub(crate) fn master_key() -> MasterKey {
     let mut master = [0; 32];
     let mut next = 128_u8;
     for byte in master.iter_mut() {
