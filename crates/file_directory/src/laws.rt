@@ -14,7 +14,8 @@ ghost use Rattle.file_directory.specs.Reading.{IsFirstWrong, read_directory};
 pub fn directories_are_read_as_they_are_written()
     ensures written { (objects : ℕ → Bool) (entries : List DirectoryEntry) → IsDirectory objects entries
         → read_directory objects (directory_text entries) ≡ Ok entries }
-    ensures in_form { (objects : ℕ → Bool) (text : List ℕ) (entries : List DirectoryEntry) → All (λ byte. byte < 256) text
+    ensures in_form { (objects : ℕ → Bool) (text : List ℕ) (entries : List DirectoryEntry)
+        → All (λ byte. byte < 256) text
         → read_directory objects text ≡ Ok entries → IsDirectory objects entries }
     ensures text { (objects : ℕ → Bool) (text : List ℕ) (entries : List DirectoryEntry) → All (λ byte. byte < 256) text
         → read_directory objects text ≡ Ok entries → directory_text entries ≡ text }

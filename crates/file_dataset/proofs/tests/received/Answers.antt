@@ -1,0 +1,7 @@
+use Rattle.file_dataset.proofs.SampleLemmas.{sample_change}
+use Rattle.file_dataset.proofs.tests.received.Goals as goal
+
+pub append_write-requires : goal.append_write-requires
+append_write-requires c =
+    sample_change c.args.family.now _ _ _ _ (record { table = c.in_ok-table.table; entry = c.in_ok-entry.entry }) c.requires.block c.requires.log
+    c.in_ok-table.ensures c.in_ok-entry.ensures
