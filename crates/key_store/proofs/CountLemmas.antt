@@ -18,7 +18,7 @@ use Rattle.key_store.specs.State.{plain_of, stored_of, stored_records, IsKept}
 use Rattle.key_store.specs.declared.state.FamilyRecord.{FamilyRecord}
 use Rattle.key_store.specs.declared.state.KeyState.TheInside.{Inside}
 use Rattle.key_store.proofs.SlotLemmas.{own_mounted}
-use Rattle.key_store.proofs.RoomLemmas.{mapped_fit, records_fit}
+use Rattle.key_store.proofs.RoomLemmas.{records_fit}
 
 -- ---- records, by family
 
@@ -37,13 +37,6 @@ stored_counted test (entry ∷ records) =
 -- ---- few are counted
 
 module _ (s : Inside) (kept : IsKept s) where
-  pub few_mapped : (test : ℕ × ℕ → Bool) → count_by test s.mapped.items ≤ 256
-  few_mapped test =
-      let counted : count_by test s.mapped.items ≤ length s.mapped.items = count_by-le-length test s.mapped.items in
-      let few : length s.mapped.items ≤ length s.tree.rows = mapped_fit ciphers (plain_of s) kept.sound in
-      let rows : length s.tree.rows ≤ 256 = kept.room.datasets in
-      omega (arith, counted, few, rows)
-
   pub few_records : (test : ℕ → Bool) → count_by (λ entry. test entry.0) s.records.items ≤ 256
   few_records test =
       let same : count_by (λ entry. test entry.0) s.records.items ≡ count_by (λ entry. test entry.0) (stored_records s.records.items) = stored_counted test s.records.items in

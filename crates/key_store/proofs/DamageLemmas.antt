@@ -15,7 +15,8 @@ use Rattle.key_ciphers.specs.Ciphers.{ciphers}
 use Rattle.key_store.proofs.OpenedLemmas.{unloaded_opened}
 use Rattle.key_store.specs.declared.state.FamilyRecord.{FamilyRecord}
 use Rattle.key_store.specs.declared.state.KeyState.TheInside.{Inside}
-use Rattle.key_store.specs.State.{plain_of, stored_of, stored_records, IsKept}
+use Rattle.key_store.specs.State.{plain_of, stored_of, stored_records, AreCounted, IsKept}
+use Rattle.key_store.proofs.UseLemmas.{replaced_counted}
 use Rattle.key_store.proofs.RecordLemmas.{with_id-stored}
 
 module _ (c : Ciphers) (p : Plain) (s : Sound c p) (none : p.loaded ≡ []) (id : ℕ) (value : Stored) (there : is_some (at_id id p.wrapped) ≡ true) where
@@ -82,6 +83,8 @@ module _ (s : Inside) (now : Plain) (view_is : plain_of s ≡ now) (kept : IsKep
         props = kept.props;
         by_family = kept.by_family;
         opened = unloaded_opened ciphers (plain_of s) (stored_records made.records.items) s.opened.items kept.sound none kept.opened;
+        mkeys = subst (λ (w : List (ℕ × Stored)). AreCounted (record (plain_of s) { wrapped = w }) s.mkey_counts.items) (sym stored_is)
+            (replaced_counted (plain_of s) family (stored_of value) s.mkey_counts.items (ap (λ f. is_some f) here) kept.sound.tree.records kept.mkeys);
         room = record {
           datasets = kept.room.datasets;
           records = omega (arith, kept.room.records, records_room);
@@ -89,5 +92,6 @@ module _ (s : Inside) (now : Plain) (view_is : plain_of s ≡ now) (kept : IsKep
           mapped = kept.room.mapped;
           mounted = kept.room.mounted;
           opened = kept.room.opened;
+          mkeys = kept.room.mkeys;
         };
       })

@@ -9,6 +9,8 @@ pub mod SlotLemmas
 pub mod OpenedLemmas
 pub mod MountLemmas
 pub mod UnloadLemmas
+pub mod UseLemmas
 pub mod SlotLawLemmas
+pub mod SpentLemmas
 pub mod CountLemmas
 pub mod AgreesLemmas

@@ -1,8 +1,9 @@
 -- Mappings and mounts as lists: what a test of them sees once one is added or dropped.
-use Rattle.std.proofs.Common.{◌≡◌, ◌≢◌, ◌⊎◌, ⊎_elim, ℕ, zero, suc, ◌+◌, ◌-◌, ◌<◌, ◌≤◌, Bool, true, false, not, cond, ◌==◌, ◌&&◌, ◌||◌, nat_lt, nat_le, is_ok, is_err, Result, Ok, Err, List, [], ◌∷◌, length, get_or, Some, None, refl, ap, sym, ◌∙◌, arith}
+use Rattle.std.proofs.Common.{◌≡◌, ◌≢◌, ◌⊎◌, ⊎_elim, ℕ, zero, suc, ◌+◌, ◌-◌, ◌<◌, ◌≤◌, Bool, true, false, not, cond, ◌==◌, ◌&&◌, ◌||◌, nat_lt, nat_le, is_ok, is_err, Result, Ok, Err, List, [], ◌∷◌, ◌++◌, length, get_or, map, take, drop, set, Some, None, refl, ap, sym, ◌∙◌, arith}
 use Rattle.std.proofs.lemmas.Bool.{cases_Bool, cond_both, cases_eq, eq-eqb, eqb-true, ne_eqb}
 use Rattle.std.proofs.lemmas.Bool.Decides.{nat_tests}
 use Rattle.std.proofs.lemmas.List.Elements.{All-head, All-tail}
+use Rattle.std.proofs.lemmas.List.Edits.{map_over_more}
 use Rattle.std.proofs.lemmas.List.Folds.{list_any_none}
 use Rattle.std.proofs.lemmas.List.Sums.{sum_by-cons}
 use Rattle.std.specs.List.Sorted.{IsPartitionedBy}
@@ -77,6 +78,48 @@ pub any_passes : {X : Type 0} (P : X → Type 0) (test : X → Bool) (xs : List 
 any_passes P test [] all any = absurd (cc)
 any_passes P test (x ∷ xs) all any = ⊎_elim (λ (passes : test x ≡ true). (x, All-head P x xs all, passes))
     (λ (fails : test x ≡ false). any_passes P test xs (All-tail P x xs all) (rw fails at any)) (cases_Bool (test x))
+
+-- ---- the entries that pass are counted
+
+swapped_sum : (a b n : ℕ) → a + (b + n) ≡ b + (a + n)
+swapped_sum a b n = omega arith
+
+pub count_put : {X : Type 0} (test : ℕ × X → Bool) (id : ℕ) (value : X) (entries : List (ℕ × X)) → at_id id entries ≡ None → count_by test (with_id id value entries) ≡ cond (test (id, value)) 1 0 + count_by test entries
+count_put {X} test id value [] new = sum_by-cons (λ (y : ℕ × X). cond (test y) 1 0) (id, value) []
+count_put {X} test id value (entry ∷ entries) new =
+    let count : ℕ × X → ℕ = λ y. cond (test y) 1 0 in
+    let sum : count_by test (entry ∷ entries) ≡ count entry + count_by test entries = sum_by-cons count entry entries in
+    ⊎_elim (λ (same : (entry.0 == id) ≡ true). absurd (let some : Some entry.1 ≡ None = rw same at new in cc))
+    (λ (other : (entry.0 == id) ≡ false).
+    cond_both (nat_lt entry.0 id) (entry ∷ with_id id value entries) (cond (entry.0 == id) ((id, value) ∷ entries) ((id, value) ∷ entry ∷ entries))
+    (λ all. count_by test all ≡ count (id, value) + count_by test (entry ∷ entries))
+    (λ lower.
+    sum_by-cons count entry (with_id id value entries) ∙ ap (λ n. count entry + n) (count_put test id value entries (rw other at new)) ∙ swapped_sum (count entry) (count (id, value)) (count_by test entries)
+    ∙ ap (λ n. count (id, value) + n) (sym sum))
+    (λ upper. rw other (sum_by-cons count (id, value) (entry ∷ entries)))) (cases_Bool (entry.0 == id))
+
+pub count_drop : {X : Type 0} (test : ℕ × X → Bool) (id : ℕ) (value : X) (entries : List (ℕ × X)) → IsRisingById entries → at_id id entries ≡ Some value
+    → count_by test entries ≡ cond (test (id, value)) 1 0 + count_by test (without_id id entries)
+count_drop test id value [] rising there = absurd (cc)
+count_drop {X} test id value (entry ∷ entries) rising there =
+    let count : ℕ × X → ℕ = λ y. cond (test y) 1 0 in
+    let sum : count_by test (entry ∷ entries) ≡ count entry + count_by test entries = sum_by-cons count entry entries in
+    ⊎_elim
+    (λ (same : (entry.0 == id) ≡ true).
+    let both : Some entry.1 ≡ Some value = rw same at there in
+    let own : entry.1 ≡ value = cc in
+    let at : entry.0 ≡ id = eqb-true entry.0 id same in
+    let absent : at_id entry.0 entries ≡ None = none_above entry.0 entries (λ k d within. rising 0 (suc k) d (omega arith) (omega arith)) in
+    let stays : without_id id entries ≡ entries = absent_stays id entries (ap (λ n. at_id n entries) (sym at) ∙ absent) in
+    let counted : count entry ≡ count (id, value) = ap (λ n. count (n, entry.1)) at ∙ ap (λ v. count (id, v)) own in
+    let left : without_id id (entry ∷ entries) ≡ entries = rw same stays in
+    sum ∙ ap (λ n. n + count_by test entries) counted ∙ ap (λ es. count (id, value) + count_by test es) (sym left))
+    (λ (other : (entry.0 == id) ≡ false).
+    let later : count_by test entries ≡ count (id, value) + count_by test (without_id id entries) =
+    count_drop test id value entries (λ i j d before within. rising (suc i) (suc j) d (omega arith) (omega arith)) (rw other at there) in
+    let left : without_id id (entry ∷ entries) ≡ entry ∷ without_id id entries = rw other refl in
+    sum ∙ ap (λ n. count entry + n) later ∙ swapped_sum (count entry) (count (id, value)) (count_by test (without_id id entries))
+    ∙ ap (λ n. count (id, value) + n) (sym (sum_by-cons count entry (without_id id entries))) ∙ ap (λ es. count (id, value) + count_by test es) (sym left)) (cases_Bool (entry.0 == id))
 
 -- ---- mounts
 
@@ -177,3 +220,13 @@ if_done (Err e) done undone fine = absurd (cc)
 
 pub find_next : (test : ℕ → Bool) (at n : ℕ) → at < n → find test (range_with_len at (n - at)) ≡ cond (test at) (Some at) (find test (range_with_len (at + 1) (n - (at + 1))))
 find_next test at n within = let more : n - at ≡ suc (n - (at + 1)) = omega arith in rw more refl
+
+-- ---- a loop that changes each entry
+
+any_default : {X : Type 0} (xs : List X) (i : ℕ) (d e : X) → i < length xs → get_or xs i d ≡ get_or xs i e
+any_default [] i d e within = absurd (omega arith)
+any_default (x ∷ xs) zero d e within = refl
+any_default (x ∷ xs) (suc i) d e within = any_default xs i d e (omega arith)
+
+pub map_over_place : {X : Type 0} (f : X → X) (xs ys : List X) (i : ℕ) (d : X) → i < length xs → i < length ys → ys ≡ map f (take i xs) ++ drop i xs → set ys i (f (get_or ys i d)) ≡ map f (take (i + 1) xs) ++ drop (i + 1) xs
+map_over_place f xs ys i d within there so_far = map_over_more f xs ys i (get_or ys i d) within so_far (any_default ys i d (get_or ys i d) there)

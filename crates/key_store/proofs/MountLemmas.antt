@@ -1,7 +1,7 @@
 -- What a keystore keeps over mounts, unmounts and closes.
 use Rattle.std.proofs.Common.{◌≡◌, ℕ, ◌+◌, ◌<◌, ◌≤◌, Bool, true, false, cond, ◌==◌, ◌||◌, ◌&&◌, not, nat_lt, IfSome, OnOk, OnErr, is_ok, is_err, Result, Ok, Err, [], List, length, set, Option, Some, None, is_some, refl, ap, sym, ◌∙◌, subst, arith}
 use Rattle.std.proofs.lemmas.Bool.{eqb-true}
-use Rattle.std.specs.Prelude.{vec_capacity}
+use Rattle.std.specs.Prelude.{◌-◌, ◌^◌, map, min, unwrap_or, vec_capacity}
 use Rattle.std.specs.List.{list_any, count_by}
 use Rattle.dataset_tree.specs.Tree.{id_named}
 use Rattle.encryption_roots.specs.declared.command.KeyCmd.TheVariants as commands
@@ -23,7 +23,7 @@ use Rattle.key_machine.specs.Sound.{Sound}
 use Rattle.key_machine.specs.Step.{refusal_of, key_step}
 use Rattle.key_machine.specs.Told.{nothing_told}
 use Rattle.key_machine.specs.Unmount.{with_unmounted, unmount_done}
-use Rattle.key_machine.specs.Users.{generation_of, is_mounted, users_of, is_used, with_mount as mount_added}
+use Rattle.key_machine.specs.Users.{generation_of, is_mounted, mkey_users, users_of, is_used, with_mount as mount_added}
 use Rattle.key_machine.proofs.FamilyLaws.{family_opens}
 use Rattle.key_machine.proofs.KeyLists.{at_id_is}
 use Rattle.key_machine.proofs.MountLaws.{IsMountable, mountable, mount_encrypted, mount_sound, unmount_sound, unmapped_sound}
@@ -31,11 +31,13 @@ use Rattle.key_machine.proofs.SlotLaws.{lowest_free}
 use Rattle.key_machine.proofs.SoundLemmas.{accepted_step}
 use Rattle.key_ciphers.specs.Ciphers.{ciphers, master_of}
 use Rattle.key_store.specs.Agrees.{Agrees}
-use Rattle.key_store.specs.State.{plain_of, IsKept}
+use Rattle.key_store.specs.State.{plain_of, AreCounted, IsKept}
 use Rattle.key_store.specs.declared.state.KeyState.TheInside.{Inside}
-use Rattle.key_store.proofs.MappingLemmas.{any_passes}
+use Rattle.key_store.proofs.MappingLemmas.{any_counted, any_passes}
+use Rattle.key_store.proofs.RoomLemmas.{one_more, one_mount_more, mapped_fit, mounts_fit}
 use Rattle.key_store.proofs.SlotLemmas.{own_taken, own_mounted, mounted_agrees, unmounted_agrees, closed_agrees, unused_slot, anew_agrees}
 use Rattle.key_store.proofs.OpenedLemmas.{AreOpened, opened_put, opened_drop}
+use Rattle.key_store.proofs.UseLemmas.{users_at, rising_counts, mapped_counted, unmapped_counted}
 
 -- a keeper that tells its counts refuses the close of a mounted slot, and of no other
 pub exact_is : (tells : Bool) (slot : Slot) (refused mounted : Bool) → tells ≡ true → IfSome (told_count tells slot) (λ count. refused ≡ nat_lt 0 count) → slot.is_mounted ≡ mounted → refused ≡ mounted
@@ -49,29 +51,26 @@ exact_is false slot refused mounted known exact same = absurd (cc)
 pub opened_slot : (t : Told) (slot : ℕ) → slot < length t.slots → slot_at (opened t slot) slot ≡ (let new : Slot = record { generation = (slot_at t slot).generation + 1; is_open = true; is_mounted = false } in new)
 opened_slot t slot within = get_or-set_same t.slots slot (let new : Slot = record { generation = (slot_at t slot).generation + 1; is_open = true; is_mounted = false } in new) fresh_slot within
 
--- what keeps its values and gains room
-pub same_kept : (s made : Inside) → IsKept s → made ≡ record s { mapped = made.mapped; mounted = made.mounted; opened = made.opened } → made.mapped.items ≡ s.mapped.items → made.mounted.items ≡ s.mounted.items
-    → made.opened.items ≡ s.opened.items → vec_capacity s.mapped ≤ vec_capacity made.mapped → vec_capacity s.mounted ≤ vec_capacity made.mounted → vec_capacity s.opened ≤ vec_capacity made.opened → IsKept made
-same_kept s made kept same mapped_is mounted_is opened_is mapped_room mounted_room opened_room =
-    let p : Plain = plain_of s in
-    let plain : plain_of (record s { mapped = made.mapped; mounted = made.mounted; opened = made.opened }) ≡ p =
-    ap (λ (m : List (ℕ × ℕ)). let q : Plain = record p { mapped = m; mounted = made.mounted.items } in q) mapped_is ∙ ap (λ (m : List ℕ). let q : Plain = record p { mounted = m } in q) mounted_is in
-    subst IsKept (sym same) (record {
-      sound = subst (λ (q : Plain). Sound ciphers q) (sym plain) kept.sound;
-      records = kept.records;
-      sizes = kept.sizes;
-      props = kept.props;
-      by_family = subst (λ (entries : List (ℕ × MasterValue)). IsRisingById entries) (sym opened_is) kept.by_family;
-      opened = subst (λ (q : Plain). AreOpened ciphers q made.opened.items) (sym plain) (subst (λ (entries : List (ℕ × MasterValue)). AreOpened ciphers p entries) (sym opened_is) kept.opened);
-      room = record {
-        datasets = kept.room.datasets;
-        records = kept.room.records;
-        loaded = kept.room.loaded;
-        mapped = omega (arith, kept.room.mapped, mapped_room);
-        mounted = omega (arith, kept.room.mounted, mounted_room);
-        opened = omega (arith, kept.room.opened, opened_room);
-      };
-    })
+-- opened keys that keep their values and may gain room
+pub opened_kept : (s made : Inside) → IsKept s → made ≡ record s { opened = made.opened } → made.opened.items ≡ s.opened.items → vec_capacity s.opened ≤ vec_capacity made.opened → IsKept made
+opened_kept s made kept same opened_is opened_room = subst IsKept (sym same) (record {
+  sound = kept.sound;
+  records = kept.records;
+  sizes = kept.sizes;
+  props = kept.props;
+  by_family = subst (λ (entries : List (ℕ × MasterValue)). IsRisingById entries) (sym opened_is) kept.by_family;
+  opened = subst (λ (entries : List (ℕ × MasterValue)). AreOpened ciphers (plain_of s) entries) (sym opened_is) kept.opened;
+  mkeys = kept.mkeys;
+  room = record {
+    datasets = kept.room.datasets;
+    records = kept.room.records;
+    loaded = kept.room.loaded;
+    mapped = kept.room.mapped;
+    mounted = kept.room.mounted;
+    opened = omega (arith, kept.room.opened, opened_room);
+    mkeys = kept.room.mkeys;
+  };
+})
 
 -- ---- a dataset that is mapped
 
@@ -110,39 +109,54 @@ module _ (s : Inside) (now : Plain) (view_is : plain_of s ≡ now) (kept : IsKep
     closed_agrees_now =
         subst (λ (q : Plain). Agrees (closed t slot) (without_mapping q id)) view_is (closed_agrees p id slot kept.sound.mappings.mapped kept.sound.mappings.slots there t within idle agrees_p)
 
-    module _ (made : Inside) (same : made ≡ record s { mapped = made.mapped; opened = made.opened }) (mapped_is : made.mapped.items ≡ without_id id s.mapped.items) where
+    module _ (made : Inside) (same : made ≡ record s { mapped = made.mapped; opened = made.opened; mkey_counts = made.mkey_counts }) (mapped_is : made.mapped.items ≡ without_id id s.mapped.items) where
       made_closed : plain_of made ≡ without_mapping p id
       made_closed = ap plain_of same ∙ ap (λ (m : List (ℕ × ℕ)). record p { mapped = m }) mapped_is
 
       pub closed_is : plain_of made ≡ without_mapping now id
       closed_is = made_closed ∙ ap (λ (q : Plain). without_mapping q id) view_is
 
-      pub closed_kept : (is_used : Bool) → is_used ≡ list_any (λ mapping. family s.tree.rows mapping.0 == family s.tree.rows id) made.mapped.items
-          → made.opened.items ≡ cond is_used s.opened.items (without_id (family s.tree.rows id) s.opened.items) → IsRisingById made.opened.items
-          → vec_capacity s.mapped ≤ vec_capacity made.mapped → vec_capacity s.opened ≤ vec_capacity made.opened → IsKept made
-      closed_kept is_used used opened_is by_family mapped_room opened_room =
-          let none : users_of p (id, slot) ≡ 0 = ap (λ b. cond b 1 0 + 0) unmounted in
-          let sound : Sound ciphers (without_mapping p id) = unmapped_sound ciphers p kept.sound id slot there none in
-          let still : is_used ≡ list_any (λ mapping. family p.tree.rows mapping.0 == family p.tree.rows id) (without_id id p.mapped) =
-          used ∙ ap (λ m. list_any (λ mapping. family s.tree.rows mapping.0 == family s.tree.rows id) m) mapped_is in
-          let opened : AreOpened ciphers (without_mapping p id) made.opened.items =
-          opened_drop ciphers p id slot s.opened.items made.opened.items is_used kept.sound.mappings.mapped there still opened_is kept.opened in
-          subst IsKept (sym same) (record {
-            sound = subst (λ (q : Plain). Sound ciphers q) (sym (ap (λ (m : List (ℕ × ℕ)). record p { mapped = m }) mapped_is)) sound;
-            records = kept.records;
-            sizes = kept.sizes;
-            props = kept.props;
-            by_family = by_family;
-            opened = subst (λ (m : List (ℕ × ℕ)). AreOpened ciphers (record p { mapped = m }) made.opened.items) (sym mapped_is) opened;
-            room = record {
-              datasets = kept.room.datasets;
-              records = kept.room.records;
-              loaded = kept.room.loaded;
-              mapped = omega (arith, kept.room.mapped, mapped_room);
-              mounted = kept.room.mounted;
-              opened = omega (arith, kept.room.opened, opened_room);
-            };
-          })
+      -- the counter of its family falls by one
+      module _ (counts_is : made.mkey_counts.items ≡ map (λ entry. (entry.0, cond (entry.0 == family s.tree.rows id) (entry.1 - 1) entry.1)) s.mkey_counts.items) where
+        none : users_of p (id, slot) ≡ 0
+        none = ap (λ b. cond b 1 0 + 0) unmounted
+
+        without_sound : Sound ciphers (without_mapping p id)
+        without_sound = unmapped_sound ciphers p kept.sound id slot there none
+
+        counted : AreCounted (without_mapping p id) made.mkey_counts.items
+        counted = unmapped_counted ciphers p kept.sound id slot s.mkey_counts.items made.mkey_counts.items there kept.mkeys counts_is
+
+        pub counts_rising : IsRisingById made.mkey_counts.items
+        counts_rising = rising_counts ciphers (without_mapping p id) without_sound made.mkey_counts.items counted
+
+        pub closed_kept : (left : ℕ) → left ≡ unwrap_or (at_id (family s.tree.rows id) made.mkey_counts.items) 0
+            → made.opened.items ≡ cond (not (left == 0)) s.opened.items (without_id (family s.tree.rows id) s.opened.items) → IsRisingById made.opened.items
+            → vec_capacity s.mapped ≤ vec_capacity made.mapped → vec_capacity s.opened ≤ vec_capacity made.opened → vec_capacity s.mkey_counts ≤ vec_capacity made.mkey_counts → IsKept made
+        closed_kept left left_is opened_is by_family mapped_room opened_room counts_room =
+            let left_users : left ≡ mkey_users (without_mapping p id) (family p.tree.rows id) = left_is ∙ users_at ciphers (without_mapping p id) without_sound made.mkey_counts.items (family p.tree.rows id) counted in
+            let still : not (left == 0) ≡ list_any (λ mapping. family p.tree.rows mapping.0 == family p.tree.rows id) (without_id id p.mapped) =
+            ap (λ n. not (n == 0)) left_users ∙ sym (any_counted (λ mapping. family p.tree.rows mapping.0 == family p.tree.rows id) (without_id id p.mapped)) in
+            let opened : AreOpened ciphers (without_mapping p id) made.opened.items =
+            opened_drop ciphers p id slot s.opened.items made.opened.items (not (left == 0)) kept.sound.mappings.mapped there still opened_is kept.opened in
+            subst IsKept (sym same) (record {
+              sound = subst (λ (q : Plain). Sound ciphers q) (sym (ap (λ (m : List (ℕ × ℕ)). record p { mapped = m }) mapped_is)) without_sound;
+              records = kept.records;
+              sizes = kept.sizes;
+              props = kept.props;
+              by_family = by_family;
+              opened = subst (λ (m : List (ℕ × ℕ)). AreOpened ciphers (record p { mapped = m }) made.opened.items) (sym mapped_is) opened;
+              mkeys = subst (λ (m : List (ℕ × ℕ)). AreCounted (record p { mapped = m }) made.mkey_counts.items) (sym mapped_is) counted;
+              room = record {
+                datasets = kept.room.datasets;
+                records = kept.room.records;
+                loaded = kept.room.loaded;
+                mapped = omega (arith, kept.room.mapped, mapped_room);
+                mounted = kept.room.mounted;
+                opened = omega (arith, kept.room.opened, opened_room);
+                mkeys = omega (arith, kept.room.mkeys, counts_room);
+              };
+            })
 
   -- ---- its mounts change
 
@@ -155,6 +169,7 @@ module _ (s : Inside) (now : Plain) (view_is : plain_of s ≡ now) (kept : IsKep
       props = kept.props;
       by_family = kept.by_family;
       opened = kept.opened;
+      mkeys = kept.mkeys;
       room = record {
         datasets = kept.room.datasets;
         records = kept.room.records;
@@ -162,6 +177,7 @@ module _ (s : Inside) (now : Plain) (view_is : plain_of s ≡ now) (kept : IsKep
         mapped = kept.room.mapped;
         mounted = omega (arith, kept.room.mounted, mounted_room);
         opened = kept.room.opened;
+        mkeys = kept.room.mkeys;
       };
     })
 
@@ -184,11 +200,19 @@ module _ (s : Inside) (now : Plain) (view_is : plain_of s ≡ now) (kept : IsKep
     again_is made same mounted_is =
         ap plain_of same ∙ ap (λ (m : List ℕ). record p { mounted = m }) mounted_is ∙ ap (λ (q : Plain). with_mounted q id) view_is
 
+    again_sound : Sound ciphers (with_mounted p id)
+    again_sound = subst (λ (place : Option ℕ). Sound ciphers (mounted_at p id place).state) there (mount_sound ciphers p name kept.sound accepted (Some id) named)
+
+    pub again_fits : length s.mounted.items < 256
+    again_fits =
+        let more : length (mount_added id s.mounted.items) ≡ length s.mounted.items + 1 = one_mount_more id s.mounted.items in
+        let few : length (mount_added id s.mounted.items) ≤ length s.tree.rows = mounts_fit ciphers (with_mounted p id) again_sound in
+        let rows : length s.tree.rows ≤ 256 = kept.room.datasets in
+        omega (arith, more, few, rows)
+
     pub again_kept : (made : Inside) → made ≡ record s { mounted = made.mounted } → made.mounted.items ≡ mount_added id s.mounted.items → vec_capacity s.mounted ≤ vec_capacity made.mounted → IsKept made
     again_kept made same mounted_is room =
-        let sound : Sound ciphers (with_mounted p id) =
-        subst (λ (place : Option ℕ). Sound ciphers (mounted_at p id place).state) there (mount_sound ciphers p name kept.sound accepted (Some id) named) in
-        mounts_kept made same (with_mounted p id) (ap (λ (m : List ℕ). record p { mounted = m }) mounted_is) sound room
+        mounts_kept made same (with_mounted p id) (ap (λ (m : List ℕ). record p { mounted = m }) mounted_is) again_sound room
 
   -- unmounted
   pub unmounts_agree : Agrees (with_mount t slot false) (with_unmounted now id)
@@ -280,6 +304,21 @@ module _ (s : Inside) (now : Plain) (view_is : plain_of s ≡ now) (kept : IsKep
         subst (λ (found : Option ℕ). Sound ciphers (mounted_on o id found).state) free_o
         (subst (λ (place : Option ℕ). Sound ciphers (mounted_at o id place).state) new_o (mount_sound ciphers o name kept.sound accepted_o (Some id) named_o))
 
+    -- there is room for the new mapping and for its mount
+    pub mapping_fits : length s.mapped.items < 256
+    mapping_fits =
+        let more : length s.mapped.items < length (with_id id slot s.mapped.items) = one_more id slot s.mapped.items new_o in
+        let few : length (with_id id slot s.mapped.items) ≤ length s.tree.rows = mapped_fit ciphers (with_mounted (with_mapping o id slot) id) anew in
+        let rows : length s.tree.rows ≤ 256 = kept.room.datasets in
+        omega (arith, more, few, rows)
+
+    pub mount_fits : length s.mounted.items < 256
+    mount_fits =
+        let more : length (mount_added id s.mounted.items) ≡ length s.mounted.items + 1 = one_mount_more id s.mounted.items in
+        let few : length (mount_added id s.mounted.items) ≤ length s.tree.rows = mounts_fit ciphers (with_mounted (with_mapping o id slot) id) anew in
+        let rows : length s.tree.rows ≤ 256 = kept.room.datasets in
+        omega (arith, more, few, rows)
+
     pub anew_step : key_step now (commands.Mount name) nothing_told ≡ (let done : Stepped = record { state = with_mounted (with_mapping now id slot) id; reply = Done } in done)
     anew_step = mount_step now name id None accepted_now named_now new_now ∙ ap (λ found. mounted_on now id found) free_now
 
@@ -289,12 +328,12 @@ module _ (s : Inside) (now : Plain) (view_is : plain_of s ≡ now) (kept : IsKep
         (anew_agrees t o id slot kept.sound.mappings.mapped kept.sound.mappings.slots new_o can.new lowest.idle lowest.there kept.sound.slots.slots agrees_o)
 
     module _ (generation : ℕ) (risen : generation ≡ (slot_at t slot).generation + 1) (key : MasterValue) (key_is : Some (master_of key) ≡ mkey ciphers now (family now.tree.rows id)) (made : Inside)
-        (same : made ≡ record s { gens = made.gens; mapped = made.mapped; mounted = made.mounted; opened = made.opened }) (gens_is : made.gens.items ≡ set s.gens.items slot generation)
+        (same : made ≡ record s { gens = made.gens; mapped = made.mapped; mounted = made.mounted; opened = made.opened; mkey_counts = made.mkey_counts }) (gens_is : made.gens.items ≡ set s.gens.items slot generation)
         (mapped_is : made.mapped.items ≡ with_id id slot s.mapped.items) (mounted_is : made.mounted.items ≡ mount_added id s.mounted.items) where
       gens_risen : made.gens.items ≡ set s.gens.items slot (generation_of o slot + 1)
       gens_risen = gens_is ∙ ap (λ g. set s.gens.items slot g) (risen ∙ ap (λ n. n + 1) generation_is)
 
-      made_plain : plain_of (record s { gens = made.gens; mapped = made.mapped; mounted = made.mounted; opened = made.opened }) ≡ with_mounted (with_mapping o id slot) id
+      made_plain : plain_of (record s { gens = made.gens; mapped = made.mapped; mounted = made.mounted; opened = made.opened; mkey_counts = made.mkey_counts }) ≡ with_mounted (with_mapping o id slot) id
       made_plain =
           ap (λ (g : List ℕ). let q : Plain = record o { gens = g; mapped = made.mapped.items; mounted = made.mounted.items } in q) gens_risen
           ∙ ap (λ (m : List (ℕ × ℕ)). let q : Plain = record o { gens = set s.gens.items slot (generation_of o slot + 1); mapped = m; mounted = made.mounted.items } in q) mapped_is
@@ -303,11 +342,15 @@ module _ (s : Inside) (now : Plain) (view_is : plain_of s ≡ now) (kept : IsKep
       pub anew_is : plain_of made ≡ with_mounted (with_mapping now id slot) id
       anew_is = ap plain_of same ∙ made_plain ∙ ap (λ (q : Plain). with_mounted (with_mapping q id slot) id) view_is
 
-      pub anew_kept : made.opened.items ≡ with_id (family s.tree.rows id) key s.opened.items → vec_capacity s.mapped ≤ vec_capacity made.mapped → vec_capacity s.mounted ≤ vec_capacity made.mounted
+      pub anew_kept : made.opened.items ≡ with_id (family s.tree.rows id) key s.opened.items
+          → made.mkey_counts.items ≡ map (λ entry. (entry.0, cond (entry.0 == family s.tree.rows id) (min (entry.1 + 1) (2 ^ 32 - 1)) entry.1)) s.mkey_counts.items → vec_capacity s.mkey_counts ≤ vec_capacity made.mkey_counts
+          → vec_capacity s.mapped ≤ vec_capacity made.mapped → vec_capacity s.mounted ≤ vec_capacity made.mounted
           → vec_capacity s.opened ≤ vec_capacity made.opened → IsKept made
-      anew_kept opened_is mapped_room mounted_room opened_room =
+      anew_kept opened_is counts_is counts_room mapped_room mounted_room opened_room =
           let key_o : Some (master_of key) ≡ mkey ciphers o (family o.tree.rows id) = key_is ∙ sym (ap (λ (q : Plain). mkey ciphers q (family q.tree.rows id)) view_is) in
           let opened : AreOpened ciphers (with_mounted (with_mapping o id slot) id) (with_id (family o.tree.rows id) key s.opened.items) = opened_put ciphers o id slot key s.opened.items new_o key_o kept.opened in
+          let counted : AreCounted (with_mounted (with_mapping o id slot) id) made.mkey_counts.items =
+          mapped_counted ciphers o kept.sound id slot s.mkey_counts.items made.mkey_counts.items new_o kept.room.datasets kept.mkeys counts_is in
           subst IsKept (sym same) (record {
             sound = subst (λ (q : Plain). Sound ciphers q) (sym made_plain) anew;
             records = kept.records;
@@ -316,6 +359,7 @@ module _ (s : Inside) (now : Plain) (view_is : plain_of s ≡ now) (kept : IsKep
             by_family = subst (λ (entries : List (ℕ × MasterValue)). IsRisingById entries) (sym opened_is) (IsRisingById-with_id (family s.tree.rows id) key s.opened.items kept.by_family);
             opened = subst (λ (q : Plain). AreOpened ciphers q made.opened.items) (sym made_plain)
                 (subst (λ (entries : List (ℕ × MasterValue)). AreOpened ciphers (with_mounted (with_mapping o id slot) id) entries) (sym opened_is) opened);
+            mkeys = subst (λ (q : Plain). AreCounted q made.mkey_counts.items) (sym made_plain) counted;
             room = record {
               datasets = kept.room.datasets;
               records = kept.room.records;
@@ -323,6 +367,7 @@ module _ (s : Inside) (now : Plain) (view_is : plain_of s ≡ now) (kept : IsKep
               mapped = omega (arith, kept.room.mapped, mapped_room);
               mounted = omega (arith, kept.room.mounted, mounted_room);
               opened = omega (arith, kept.room.opened, opened_room);
+              mkeys = omega (arith, kept.room.mkeys, counts_room);
             };
           })
 

@@ -212,12 +212,11 @@ put_unless : {X : Type 0} (b : Bool) (id at : ℕ) (value : X) (entries : List (
 put_unless true id at value entries apart = at_id-with_id_other id at value entries apart
 put_unless false id at value entries apart = refl
 
-pub created_opened : (c : Ciphers) (p : Plain) (name : List ℕ) (opts : Options) (told : Told) (root encrypted : Bool) (opened : List (ℕ × MasterValue)) → Sound c p → refusal_of p (commands.Create name opts) ≡ None → AreOpened c p opened
-    → AreOpened c (created_with p name opts told root encrypted) opened
-created_opened c p name opts told root encrypted opened s accepted are =
+pub created_grows : (c : Ciphers) (p : Plain) (name : List ℕ) (opts : Options) (told : Told) (root encrypted : Bool) → Sound c p → refusal_of p (commands.Create name opts) ≡ None
+    → Grows p (new_row p name encrypted) (roots_with p opts told root) (records_with p opts told encrypted) (loaded_with p told root)
+created_grows c p name opts told root encrypted s accepted =
     let is : IsFree p name opts = free p name opts accepted in
-    grown_opened c p (new_row p name encrypted) (roots_with p opts told root) (records_with p opts told encrypted) (loaded_with p told root)
-    (record {
+    record {
       tree = s.tree.tree;
       id = refl;
       new = is.absent;
@@ -226,11 +225,16 @@ created_opened c p name opts told root encrypted opened s accepted are =
       roots_kept = λ id apart. put_unless root (p.tree.last + 1) id (new_props opts told) p.roots apart;
       wrapped_kept = λ id apart. put_unless encrypted (p.tree.last + 1) id (new_stored (p.tree.last + 1) opts told) p.wrapped apart;
       loaded_kept = λ id apart. put_unless root (p.tree.last + 1) id told.key p.loaded apart;
-    }) s opened are
+    }
   where
     there : (found : Option ℕ) → is_none found ≡ false → found ≡ Some (unwrap_or found 0)
     there None lacks = absurd (cc)
     there (Some id) lacks = refl
+
+pub created_opened : (c : Ciphers) (p : Plain) (name : List ℕ) (opts : Options) (told : Told) (root encrypted : Bool) (opened : List (ℕ × MasterValue)) → Sound c p → refusal_of p (commands.Create name opts) ≡ None → AreOpened c p opened
+    → AreOpened c (created_with p name opts told root encrypted) opened
+created_opened c p name opts told root encrypted opened s accepted are =
+    grown_opened c p (new_row p name encrypted) (roots_with p opts told root) (records_with p opts told encrypted) (loaded_with p told root) (created_grows c p name opts told root encrypted s accepted) s opened are
 
 -- ---- no key is loaded
 

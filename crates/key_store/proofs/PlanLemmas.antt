@@ -45,7 +45,8 @@ use Rattle.key_ciphers.proofs.CipherLaws.{ciphers_sound}
 use Rattle.key_ciphers.specs.Ciphers.{ciphers, master_of, with_guid}
 use Rattle.key_store.specs.declared.state.FamilyRecord.{FamilyRecord}
 use Rattle.key_store.specs.declared.state.KeyState.TheInside.{Inside}
-use Rattle.key_store.specs.State.{plain_of, stored_of, stored_records, with_written, IsKept}
+use Rattle.key_store.specs.State.{plain_of, stored_of, stored_records, with_written, AreCounted, IsKept}
+use Rattle.key_store.proofs.UseLemmas.{written_counted}
 use Rattle.key_store.proofs.RoomLemmas.{roots_fit, loaded_fit}
 
 -- ---- what is written for a family
@@ -304,6 +305,9 @@ module _ (s : Inside) (now : Plain) (plan : ChangePlan) (view_is : plain_of s �
           opened = subst (λ (p : Plain). AreOpened ciphers p made.opened.items) (sym made_is)
               (subst (λ (entries : List (ℕ × MasterValue)). AreOpened ciphers after entries) (sym (ap (λ (i : Inside). i.opened.items) same))
               (planned_opened ciphers ciphers_sound (plain_of s) plan is_planned kept.sound s.opened.items kept.opened));
+          mkeys = subst (λ (p : Plain). AreCounted p made.mkey_counts.items) (sym made_is)
+              (subst (λ (counts : List (ℕ × ℕ)). AreCounted after counts) (sym (ap (λ (i : Inside). i.mkey_counts.items) same))
+              (written_counted (plain_of s) (with_record plan.wrapped.items) after.roots after.loaded s.mkey_counts.items kept.mkeys));
           room = record {
             datasets = subst (λ (t : Datasets). length t.rows ≤ 256) (sym tree_is) kept.room.datasets;
             records = omega (arith, kept.room.records, records_room);
@@ -311,5 +315,6 @@ module _ (s : Inside) (now : Plain) (plan : ChangePlan) (view_is : plain_of s �
             mapped = subst (λ (i : Inside). 256 ≤ vec_capacity i.mapped) (sym same) kept.room.mapped;
             mounted = subst (λ (i : Inside). 256 ≤ vec_capacity i.mounted) (sym same) kept.room.mounted;
             opened = subst (λ (i : Inside). 32 ≤ vec_capacity i.opened) (sym same) kept.room.opened;
+            mkeys = subst (λ (i : Inside). 32 ≤ vec_capacity i.mkey_counts) (sym same) kept.room.mkeys;
           };
         }

@@ -1,8 +1,8 @@
 -- There are no more roots and loaded keys than datasets.
-use Rattle.std.proofs.Common.{◌≡◌, ◌∙◌, ◌+◌, ◌⊎◌, ⊎_elim, ℕ, suc, ◌<◌, ◌≤◌, true, false, nat_lt, ◌==◌, List, [], ◌∷◌, length, get_or, Some, None, is_some, is_err, Ok, Err, Result, OnOk, OnErr, ap, subst, arith}
+use Rattle.std.proofs.Common.{◌≡◌, ◌∙◌, ◌+◌, ◌⊎◌, ⊎_elim, ℕ, suc, ◌<◌, ◌≤◌, true, false, cond, nat_lt, ◌==◌, List, [], ◌∷◌, length, get_or, map, Some, None, is_some, is_err, Ok, Err, Result, OnOk, OnErr, refl, ap, subst, arith}
 use Rattle.std.proofs.lemmas.Bool.{cases_Bool}
 use Rattle.std.proofs.lemmas.Bool.Decides.{nat_tests}
-use Rattle.std.proofs.lemmas.List.{length_push}
+use Rattle.std.proofs.lemmas.List.{length_push, length-map}
 use Rattle.std.proofs.lemmas.List.Elements.{recursion_from_All}
 use Rattle.std.specs.List.{All, AllPairs, AllByRecursion}
 use Rattle.dataset_tree.specs.declared.tree.Row.{Row}
@@ -14,7 +14,8 @@ use Rattle.key_machine.specs.Plain.{Plain, Ciphers, is_root}
 use Rattle.key_machine.specs.Sound.{Sound, IsEncrypted}
 use Rattle.encryption_roots.specs.Owners.{family}
 use Rattle.key_machine.proofs.DestroyLaws.{family_first}
-use Rattle.key_machine.proofs.KeyLists.{each_found}
+use Rattle.key_machine.specs.Users.{with_mount}
+use Rattle.key_machine.proofs.KeyLists.{each_found, at_id_holds}
 
 pub on_err : {T E : Type 0} (r : Result T E) (P : Type 0) → OnErr r P → is_err r ≡ true → P
 on_err (Ok x) P holds err = absurd (cc)
@@ -91,6 +92,26 @@ module _ {X : Type 0} where
       fewer rows (entry ∷ entries) ordered.1 rising (among_others row rows (entry ∷ entries) (higher, all_above row.id entry.0 entries (omega (arith, higher)) rising.0) there) in
       omega (arith, rest)) cases
 
+-- mounts, as a list by id
+abbrev by_id : ℕ → ℕ × ℕ
+by_id id = (id, id)
+
+mounts_rise : (mounted : List ℕ) → AllPairs (λ a b. a < b) mounted → Rises (map by_id mounted)
+mounts_rise [] ordered = tt
+mounts_rise (id ∷ mounted) ordered =
+    (above id mounted (recursion_from_All (λ later. id < later) mounted (λ k d within. ordered 0 (suc k) d (omega arith) (omega arith))), mounts_rise mounted (λ i j d before within. ordered (suc i) (suc j) d (omega arith) (omega arith)))
+  where
+    above : (id : ℕ) (mounted : List ℕ) → AllByRecursion (λ later. id < later) mounted → AllByRecursion (λ entry. id < entry.0) (map by_id mounted)
+    above id [] all = tt
+    above id (next ∷ mounted) all = (all.0, above id mounted all.1)
+
+-- a mount makes one more
+pub one_mount_more : (id : ℕ) (mounted : List ℕ) → length (with_mount id mounted) ≡ length mounted + 1
+one_mount_more id [] = refl
+one_mount_more id (first ∷ later) =
+    let rest : length (with_mount id later) ≡ length later + 1 = one_mount_more id later in
+    elim (nat_lt id first) as (λ b. length (cond b (id ∷ first ∷ later) (first ∷ with_mount id later)) ≡ length (first ∷ later) + 1) [ true ↦ omega arith | false ↦ omega (arith, rest) ]
+
 module _ (c : Ciphers) (p : Plain) (sound : Sound c p) where
   there : (id : ℕ) → is_root p id ≡ true → IsThere p.tree.rows id
   there id root = let encrypted : IsEncrypted p id = sound.tree.roots_encrypted id root in ap (λ found. is_some found) encrypted.1
@@ -124,3 +145,21 @@ module _ (c : Ciphers) (p : Plain) (sound : Sound c p) where
       let id : ℕ = (get_or p.wrapped k d).0 in
       let member : (dataset : ℕ) × IsEncrypted p dataset × (family p.tree.rows dataset ≡ id) = (sound.tree.families id).0 (ap (λ at. is_some at) (found k d within)) in
       is_there id (subst (λ (n : ℕ). IsEncrypted p n) member.2 (family_first p sound.tree member.0 member.1).0)))
+
+  -- a mount is that of a mapped dataset
+  pub mounts_fit : length p.mounted ≤ length p.tree.rows
+  mounts_fit =
+      let long : length (map by_id p.mounted) ≡ length p.mounted = length-map p.mounted by_id in
+      let rising : Rises (map by_id p.mounted) = mounts_rise p.mounted sound.mappings.mounted in
+      let few : length (map by_id p.mounted) ≤ length p.tree.rows =
+      fewer p.tree.rows (map by_id p.mounted) (rows_rise p.tree.rows sound.tree.tree.rising) rising
+      (mounts_there p.mounted (recursion_from_All (λ id. IsThere p.tree.rows id) p.mounted
+      (λ k d within.
+      let id : ℕ = get_or p.mounted k d in
+      let mapping : (slot : ℕ) × IsEncrypted p id = at_id_holds (λ (m : ℕ × ℕ). IsEncrypted p m.0) id p.mapped sound.mappings.encrypted (sound.mappings.mounts k d within) in
+      is_there id mapping.1))) in
+      omega (arith, long, few)
+    where
+      mounts_there : (mounted : List ℕ) → AllByRecursion (λ id. IsThere p.tree.rows id) mounted → AllByRecursion (λ entry. IsThere p.tree.rows entry.0) (map by_id mounted)
+      mounts_there [] all = tt
+      mounts_there (id ∷ mounted) all = (all.0, mounts_there mounted all.1)

@@ -409,6 +409,7 @@ drop_kept s made now root view_is kept idle_now same loaded_is loaded_room =
       props = kept.props;
       by_family = kept.by_family;
       opened = subst (λ (keys : List (ℕ × List ℕ)). AreOpened ciphers (record p { loaded = keys }) s.opened.items) (sym loaded_is) opened;
+      mkeys = kept.mkeys;
       room = record {
         datasets = kept.room.datasets;
         records = kept.room.records;
@@ -416,6 +417,7 @@ drop_kept s made now root view_is kept idle_now same loaded_is loaded_room =
         mapped = kept.room.mapped;
         mounted = kept.room.mounted;
         opened = kept.room.opened;
+        mkeys = kept.room.mkeys;
       };
     })
 

@@ -11,6 +11,7 @@ use Rattle.wrapped_keys.specs.Stored.{parsed_record}
 use Rattle.key_machine.specs.Counts.{is_opened}
 use Rattle.key_machine.specs.Plain.{Plain, Stored, Master, mkey}
 use Rattle.key_machine.specs.Sound.{Sound}
+use Rattle.key_machine.specs.Users.{mkey_users}
 use Rattle.key_store.specs.declared.state.FamilyRecord.{FamilyRecord}
 use Rattle.key_store.specs.declared.state.KeyState.TheInside.{Inside}
 use Rattle.key_ciphers.specs.Ciphers.{ciphers, master_of}
@@ -43,6 +44,14 @@ plain_of s = record {
 abbrev pub opened_key : Plain → ℕ → Option Master
 opened_key p family = if is_opened p family then mkey ciphers p family else None
 
+-- each entry with the users of its id
+abbrev pub counted_by : {X : Type 0} → (ℕ → ℕ) → List (ℕ × X) → List (ℕ × ℕ)
+counted_by users entries = map (λ entry. (entry.0, users entry.0)) entries
+
+-- The counters of master keys: for each family that has a record its mapped datasets.
+abbrev pub AreCounted : Plain → List (ℕ × ℕ) → Type 0
+AreCounted p counts = counts ≡ counted_by (mkey_users p) p.wrapped
+
 -- There is room for 32 records and 256 loaded keys and mappings, and there are at most 256 datasets, of which each
 -- root is one.
 pub record HasRoom (s : Inside) : Type 0 where
@@ -52,9 +61,11 @@ pub record HasRoom (s : Inside) : Type 0 where
   pub mapped : 256 ≤ vec_capacity s.mapped
   pub mounted : 256 ≤ vec_capacity s.mounted
   pub opened : 32 ≤ vec_capacity s.opened
+  pub mkeys : 32 ≤ vec_capacity s.mkey_counts
 
 -- The plain state is sound; its records, its record sizes and the properties of its roots are in form; the master
--- keys that are opened are those of the families with a mapped dataset; and there is room.
+-- keys that are opened are those of the families with a mapped dataset; their counters are the live users; and there
+-- is room.
 pub record IsKept (s : Inside) : Type 0 where
   pub sound : Sound ciphers (plain_of s)
   pub records : All (λ entry. is_some (parsed_record entry.1.wrapped) ≡ true) s.records.items
@@ -62,4 +73,5 @@ pub record IsKept (s : Inside) : Type 0 where
   pub props : All (λ entry. KeepsIterations entry.1) s.roots
   pub by_family : IsRisingById s.opened.items
   pub opened : (family : ℕ) → option_map master_of (at_id family s.opened.items) ≡ opened_key (plain_of s) family
+  pub mkeys : AreCounted (plain_of s) s.mkey_counts.items
   pub room : HasRoom s

@@ -2,7 +2,6 @@
 ghost use Rattle.std.specs.Prelude.{◌≡◌, ◌<◌, ◌==◌, not, ◌&&◌, true, length, map, slice_index, Some, IfOk};
 ghost use Rattle.std.specs.List.{All, count_by, filter};
 ghost use Rattle.encryption_roots.specs.ById.{at_id};
-ghost use Rattle.encryption_roots.specs.Owners.{family as family_in};
 ghost use Rattle.key_machine.specs.Counts.{counts, is_opened};
 ghost use Rattle.key_machine.specs.Limits.{slot_count};
 ghost use Rattle.key_machine.specs.Plain.{is_same, owner_of};
@@ -11,9 +10,10 @@ ghost use Rattle.key_store.specs.Agrees.{Agrees, is_mounted_on};
 ghost use Rattle.key_store.specs.Counts.{mounts_of, ShowsMapping, ShowsMappings};
 
 use crate::state::{FamilyRecord, KeyState};
-use dataset_tree::{NoMemory, Tree};
-use encryption_roots::family_of;
+use crate::uses::uses_of;
+use dataset_tree::NoMemory;
 use mapping_words::SlotKeeper;
+use std::alloc::Global;
 use std::marker::Model;
 
 /// The live users of keys and mappings, each list in rising order of id.
@@ -74,19 +74,7 @@ impl KeyState {
     fn mkey_counts(&self) -> Result<Vec<(u32, u32)>, NoMemory>
         ensures { IfOk result (λ found. found.items ≡ (counts self.now).mkeys) }
     {
-        self.mkey_counts_in(self.records.as_slice())
-    }
-
-    fn mkey_counts_in(&self, records: &[(u32, FamilyRecord)]) -> Result<Vec<(u32, u32)>, NoMemory>
-        ensures { IfOk result (λ found. found.items
-            ≡ map (λ entry. (entry.0, mkey_users self.now entry.0))
-            (filter (λ entry. is_opened self.now entry.0) records.now)) }
-    {
-        records
-            .iter()
-            .filter(|entry| self.mkey_users(entry.0) != 0)
-            .map(|entry| (entry.0, self.mkey_users(entry.0)))
-            .collect(self.alloc)
+        used(self.alloc, self.mkey_counts.as_slice())
     }
 
     /// How many of the families that a root owns have a mapped dataset.
@@ -110,7 +98,7 @@ impl KeyState {
     fn mkey_users(&self, family: u32) -> u32
         ensures { result ≡ mkey_users self.now family }
     {
-        mapped_of(&self.tree, self.mapped.as_slice(), family) as u32
+        uses_of(self.mkey_counts.as_slice(), family)
     }
 
     fn map_counts<K: SlotKeeper>(
@@ -180,14 +168,16 @@ impl KeyState {
     }
 }
 
-/// How many datasets of a family are mapped.
-fn mapped_of(tree: &Tree, mapped: &[(u32, u32)], family: u32) -> usize
-    ensures { result ≡ count_by (λ mapping. family_in tree.now.rows mapping.0 == family) mapped.now }
+/// The counters that count a use.
+fn used(alloc: Global, counts: &[(u32, u32)]) -> Result<Vec<(u32, u32)>, NoMemory>
+    ensures { IfOk result (λ found. found.items
+        ≡ map (λ entry. (entry.0, entry.1)) (filter (λ entry. not (entry.1 == 0)) counts.now)) }
 {
-    mapped
+    counts
         .iter()
-        .filter(|mapping| family_of(tree, mapping.0) == family)
-        .count()
+        .filter(|entry| entry.1 != 0)
+        .map(|entry| (entry.0, entry.1))
+        .collect(alloc)
 }
 
 fn generation_at(gens: &[u32], slot: u32) -> u32

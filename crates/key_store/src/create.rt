@@ -97,6 +97,7 @@ impl KeyState {
         };
         let id = add_free(&mut self.tree, name, Kind::Crypt)?;
         put_with_room(&mut self.records, id, family);
+        put_with_room(&mut self.mkey_counts, id, 0);
         Ok(id)
     }
 
@@ -167,6 +168,7 @@ impl KeyState {
         }
         put_with_room(&mut self.records, id, root.family);
         put_with_room(&mut self.loaded, id, root.key);
+        put_with_room(&mut self.mkey_counts, id, 0);
         Ok(id)
     }
 

@@ -18,6 +18,7 @@ mod slot_laws;
 mod slots;
 mod state;
 mod unload;
+mod uses;
 
 pub use counts::Counts;
 pub use laws::{commands_keep_soundness, states_are_sound};

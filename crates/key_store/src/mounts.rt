@@ -19,10 +19,9 @@ ghost use Rattle.key_store.specs.Calls.{state_after, AnswersDone, AnswersUnloade
 ghost use Rattle.std.specs.Option.{option_map};
 
 use crate::create::put_with_room;
-use crate::slots::{
-    add_mount, free_slot, is_family_mapped, keep_opened, remove_mount, set_generation,
-};
+use crate::slots::{add_mount, free_slot, keep_opened, remove_mount, set_generation};
 use crate::state::{KeyState, SLOTS};
+use crate::uses::{add_use, take_use, uses_of};
 use dataset_tree::{Kind, NoMemory, Refusal, SetName, Stop};
 use encryption_roots::{family_of, put_at_id, remove_at_id};
 use mapping_words::{InUse, SlotKeeper};
@@ -58,7 +57,7 @@ impl KeyState {
             Err(why) => return Err(Stop::Refused(why)),
         };
         match self.slot_of(id) {
-            Some(slot) => self.mount_again(keeper, board, name, id, slot)?,
+            Some(slot) => self.mount_again(keeper, board, name, id, slot),
             None => self.mount_anew(keeper, board, name, id)?,
         }
         Ok(())
@@ -72,23 +71,20 @@ impl KeyState {
         name: &SetName,
         id: u32,
         slot: u32,
-    ) -> Result<(), NoMemory>
+    )
         requires fits { K.fits keeper.old board.now }
         requires agrees { Agrees (K.told keeper.old) self.old }
         requires accepted { refusal_of self.old (commands.Mount name.now) ≡ None }
         requires named { id_named name.now self.old.tree.rows ≡ Some id }
         requires mapped { at_id id self.old.mapped ≡ Some slot }
-        ensures ok { OnOk result (self.new ≡ with_mounted self.old id) }
-        ensures err { OnErr result (self.new ≡ self.old) }
-        ensures untold { OnErr result (K.told keeper.new ≡ K.told keeper.old) }
+        ensures mounted { self.new ≡ with_mounted self.old id }
         ensures refusals { SameRefusals (K.told keeper.old) (K.told keeper.new) }
         ensures agrees { Agrees (K.told keeper.new) self.new }
         ensures fits { K.fits keeper.new board.now }
     {
-        self.mounted.reserve(1)?;
+        let _ = &self.tree;
         keeper.mount(board, slot);
         add_mount(&mut self.mounted, id);
-        Ok(())
     }
 
     /// Maps a dataset on the lowest free slot, and mounts it.
@@ -119,13 +115,12 @@ impl KeyState {
         let Some(key) = self.family_key(family) else {
             unreachable!();
         };
-        self.mapped.reserve(1)?;
-        self.mounted.reserve(1)?;
         put_at_id(&mut self.opened, family, key)?;
         let generation = keeper.open_slot(board, slot);
         keeper.mount(board, slot);
         set_generation(&mut self.gens, slot, generation);
         put_with_room(&mut self.mapped, id, slot);
+        add_use(self.mkey_counts.as_mut_slice(), family);
         add_mount(&mut self.mounted, id);
         Ok(())
     }
@@ -231,6 +226,7 @@ impl KeyState {
         ensures refused { result ≡ false → (slot : ℕ) → at_id id self.old.mapped ≡ Some slot
             → (count : ℕ) × (1 ≤ count) × IsRefused (K.told keeper.old) (K.told keeper.new) slot count }
         ensures refusals { result ≡ true → SameRefusals (K.told keeper.old) (K.told keeper.new) }
+        ensures unmapped { at_id id self.old.mapped ≡ None → K.told keeper.new ≡ K.told keeper.old }
         ensures tells { K.tells ≡ true
             → reap_step self.old id ≡ record { state = self.new; reply = Reaped id result } }
         ensures agrees { Agrees (K.told keeper.new) self.new }
@@ -271,7 +267,8 @@ impl KeyState {
             Err(found) => return Err(found),
         }
         remove_at_id(&mut self.mapped, id);
-        let is_used = is_family_mapped(&self.tree, self.mapped.as_slice(), family);
+        take_use(self.mkey_counts.as_mut_slice(), family);
+        let is_used = uses_of(self.mkey_counts.as_slice(), family) != 0;
         keep_opened(&mut self.opened, family, is_used);
         Ok(())
     }

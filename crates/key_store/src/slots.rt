@@ -2,15 +2,14 @@
 ghost use Rattle.std.specs.Prelude.{◌≡◌, ◌<◌, ◌≤◌, ◌==◌, length, replicate, slice_set, vec_capacity, IfOk, if◌then◌else◌};
 ghost use Rattle.std.specs.List.{AllPairs, list_any};
 ghost use Rattle.encryption_roots.specs.ById.{IsRisingById, without_id};
-ghost use Rattle.encryption_roots.specs.Owners.{family as family_in};
 ghost use Rattle.key_machine.specs.Mount.{free_slot, is_free};
 ghost use Rattle.key_machine.specs.Plain.{no_keys};
 ghost use Rattle.key_machine.specs.Unmount.{without_mount};
 ghost use Rattle.key_machine.specs.Users.{with_mount};
 
 use crate::state::SLOTS;
-use dataset_tree::{NoMemory, Tree};
-use encryption_roots::{family_of, remove_at_id};
+use dataset_tree::NoMemory;
+use encryption_roots::remove_at_id;
 use mapping_words::LAST_GENERATION;
 use std::alloc::Global;
 use wrapped_keys::MasterKey;
@@ -39,15 +38,6 @@ fn is_taken(mapped: &[(u32, u32)], slot: u32) -> bool
     ensures { result ≡ list_any (λ mapping. mapping.1 == slot) mapped.now }
 {
     mapped.iter().any(|mapping| mapping.1 == slot)
-}
-
-/// Whether a dataset of the family is mapped.
-pub(crate) fn is_family_mapped(tree: &Tree, mapped: &[(u32, u32)], family: u32) -> bool
-    ensures { result ≡ list_any (λ mapping. family_in tree.now.rows mapping.0 == family) mapped.now }
-{
-    mapped
-        .iter()
-        .any(|mapping| family_of(tree, mapping.0) == family)
 }
 
 /// Keeps a family's opened master key while it is used.

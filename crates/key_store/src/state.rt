@@ -49,8 +49,10 @@ pub struct KeyState {
     pub(crate) gens: Vec<u32>,
     pub(crate) mapped: Vec<(u32, u32)>,
     pub(crate) mounted: Vec<u32>,
-    // The master keys of the families with a mapped dataset, in rising order of id.
+    // The master keys of the families with a mapped dataset, and for each family that has a record how many of its
+    // datasets are mapped, both in rising order of id.
     pub(crate) opened: Vec<(u32, MasterKey)>,
+    pub(crate) mkey_counts: Vec<(u32, u32)>,
     pub(crate) alloc: Global,
 }
 
@@ -80,6 +82,7 @@ impl KeyState {
         let mapped = Vec::with_capacity(alloc, MAPPED_ROOM)?;
         let mounted = Vec::with_capacity(alloc, MAPPED_ROOM)?;
         let opened = Vec::with_capacity(alloc, MAX_FAMILIES)?;
+        let mkey_counts = Vec::with_capacity(alloc, MAX_FAMILIES)?;
         Ok(KeyState {
             tree,
             roots,
@@ -89,6 +92,7 @@ impl KeyState {
             mapped,
             mounted,
             opened,
+            mkey_counts,
             alloc,
         })
     }

@@ -1,16 +1,18 @@
 // The commands of the keystore, by calls: what no script shows.
-ghost use Rattle.std.specs.Prelude.{◌≡◌, true, IfOk, IfSome, is_some};
+ghost use Rattle.std.specs.Prelude.{◌≡◌, true, replicate, IfOk, IfSome, OnOk, is_some};
 ghost use Rattle.key_machine.specs.Counts.{counts};
 ghost use Rattle.mapping_words.specs.Told.{Told, fresh};
 ghost use Rattle.key_store.specs.Agrees.{Agrees};
+ghost use Rattle.key_store.specs.Spent.{spent};
 ghost use Rattle.encryption_roots.specs.RecordSize.{IsRecordSize};
 ghost use Rattle.wrapped_keys.specs.Stored.{parsed_record};
 
 use super::*;
+use crate::slots::{free_slot, fresh_gens, set_generation};
 use crate::state::FamilyRecord;
 use dataset_tree::{Format, MaterialFault, NoMemory, RecordBytes, Refusal, SetName, Stop};
 use encryption_roots::{Fetched, KeyCmd, LineKit, Material, Options, Prop, SeedGot, put_at_id};
-use mapping_words::{LoneWords, SlotKeeper};
+use mapping_words::{InUse, LAST_GENERATION, LoneWords, SlotKeeper};
 use std::alloc::Global;
 use std::test::Fail;
 use wrapped_keys::KeyRecord;
@@ -77,6 +79,34 @@ fn with_root(
     }
 }
 
+// A keystore with the raw root `tank`, and slots that agree with it.
+fn with_raw_root(alloc: Global) -> Result<(KeyState, LoneWords), Fail>
+    ensures { IfOk result (λ made. Agrees made.1 made.0) }
+{
+    let state = with_root(alloc, &options(Format::Raw, None), RAW_KEY, SEED)??;
+    let words = LoneWords::new(alloc, 256)?;
+    Ok((state, words))
+}
+
+// The same with `tank/a`, which inherits the root's key.
+fn with_heir(alloc: Global) -> Result<(KeyState, LoneWords), Fail>
+    ensures { IfOk result (λ made. Agrees made.1 made.0) }
+{
+    let (mut state, words) = with_raw_root(alloc)?;
+    let kit = kit(alloc, RAW_KEY, SEED)?;
+    let heir = SetName::parse(alloc, b"tank/a")?;
+    create(&mut state, &heir, &Options::none(), &kit)?;
+    Ok((state, words))
+}
+
+// A keystore whose raw root `tank` was unloaded.
+fn unloaded(alloc: Global) -> Result<KeyState, Fail> {
+    let (mut state, mut words) = with_raw_root(alloc)?;
+    let name = tank(alloc)?;
+    state.unload(&mut words, &(), &name)?;
+    Ok(state)
+}
+
 #[test]
 fn bad_material_comes_before_a_failed_seed(rt: HostRuntime) -> Result<(), Fail> {
     let opts = options(Format::Passphrase, None);
@@ -101,11 +131,9 @@ fn a_passphrase_root_has_the_salt_of_its_seed(rt: HostRuntime) -> Result<(), Fai
 #[test]
 fn a_raw_root_is_loaded_again(rt: HostRuntime) -> Result<(), Fail> {
     let alloc = rt.alloc();
-    let mut state = with_root(alloc, &options(Format::Raw, None), RAW_KEY, SEED)??;
+    let mut state = unloaded(alloc)?;
     let name = tank(alloc)?;
     let kit = kit(alloc, RAW_KEY, SEED)?;
-    let mut words = LoneWords::new(alloc, 256)?;
-    state.unload(&mut words, &(), &name)?;
     state.load(&name, true, &kit)?;
     assert!(rt; !state.status(1));
     state.load(&name, false, &kit)?;
@@ -116,8 +144,7 @@ fn a_raw_root_is_loaded_again(rt: HostRuntime) -> Result<(), Fail> {
 #[test]
 fn a_mounted_dataset_keeps_its_key(rt: HostRuntime) -> Result<(), Fail> {
     let alloc = rt.alloc();
-    let mut state = with_root(alloc, &options(Format::Raw, None), RAW_KEY, SEED)??;
-    let mut words = LoneWords::new(alloc, 256)?;
+    let (mut state, mut words) = with_raw_root(alloc)?;
     let name = tank(alloc)?;
     state.mount(&mut words, &(), &name)?;
     let busy = Refusal::Busy {
@@ -179,14 +206,11 @@ fn damaged(stored: &RecordBytes) -> Result<RecordBytes, Fail> {
 #[test]
 fn a_damaged_record_is_named(rt: HostRuntime) -> Result<(), Fail> {
     let alloc = rt.alloc();
-    let mut state = with_root(alloc, &options(Format::Raw, None), RAW_KEY, SEED)??;
-    let kit = kit(alloc, RAW_KEY, SEED)?;
-    let heir = SetName::parse(alloc, b"tank/a")?;
-    create(&mut state, &heir, &Options::none(), &kit)?;
+    let (mut state, mut words) = with_heir(alloc)?;
     let name = tank(alloc)?;
-    let mut words = LoneWords::new(alloc, 256)?;
     state.unload(&mut words, &(), &name)?;
     damage(&mut state, 2)?;
+    let kit = kit(alloc, RAW_KEY, SEED)?;
     let loaded = state.load(&name, false, &kit);
     assert_eq!(rt;
         loaded,
@@ -211,15 +235,89 @@ fn counts_by<K: SlotKeeper>(
 #[test]
 fn a_mounted_child_is_counted(rt: HostRuntime) -> Result<(), Fail> {
     let alloc = rt.alloc();
-    let mut state = with_root(alloc, &options(Format::Raw, None), RAW_KEY, SEED)??;
-    let kit = kit(alloc, RAW_KEY, SEED)?;
+    let (mut state, mut words) = with_heir(alloc)?;
     let heir = SetName::parse(alloc, b"tank/a")?;
-    create(&mut state, &heir, &Options::none(), &kit)?;
-    let mut words = LoneWords::new(alloc, 256)?;
     state.mount(&mut words, &(), &heir)?;
     let found = counts_by(&state, &mut words, &())?;
     assert_eq!(rt; found.wkeys.as_slice(), [(1, 1)].as_slice());
     assert_eq!(rt; found.mkeys.as_slice(), [(2, 1)].as_slice());
     assert_eq!(rt; found.maps.as_slice(), [(2, 1, 1)].as_slice());
+    Ok(())
+}
+
+// A keeper whose slots have no generation left: none of them is ever opened.
+#[derive(Drop)]
+struct SpentSlots {}
+
+impl SlotKeeper for SpentSlots {
+    ghost use Rattle.std.specs.Prelude.{true, ⊤};
+
+    type Board = ();
+
+    ghost told = { λ keeper. spent };
+
+    ghost fits = { λ keeper board. ⊤ };
+
+    ghost tells = { true };
+
+    fn open_slot(&mut self, _board: &(), _slot: u32) -> u32 {
+        unreachable!()
+    }
+
+    fn mount(&mut self, _board: &(), _slot: u32) {
+        unreachable!()
+    }
+
+    fn unmount(&mut self, _board: &(), _slot: u32) {
+        unreachable!()
+    }
+
+    fn close_slot(&mut self, _board: &(), _slot: u32) -> Result<(), InUse> {
+        unreachable!()
+    }
+
+    fn count(&mut self, _board: &(), _slot: u32) -> u32 {
+        0
+    }
+}
+
+fn spent_gens(alloc: Global) -> Result<Vec<u32>, NoMemory>
+    ensures { IfOk result (λ gens. gens.items ≡ replicate 256 1073741823) }
+{
+    Ok(vec![in alloc; LAST_GENERATION; 256]?)
+}
+
+// Uses up the generations of all slots, where nothing is mapped.
+fn spend(state: &mut KeyState) -> Result<(), Fail>
+    ensures { OnOk result (Agrees spent state.new) }
+{
+    if !state.mapped.is_empty() {
+        return Err(Fail::from("a mapping"));
+    }
+    state.gens = spent_gens(state.alloc)?;
+    Ok(())
+}
+
+#[test]
+fn a_mount_without_a_free_slot_is_refused(rt: HostRuntime) -> Result<(), Fail> {
+    let alloc = rt.alloc();
+    let mut state = with_root(alloc, &options(Format::Raw, None), RAW_KEY, SEED)??;
+    let name = tank(alloc)?;
+    spend(&mut state)?;
+    let mut slots = SpentSlots {};
+    let full = Stop::Refused(Refusal::Full { limit: 256 });
+    assert_eq!(rt; state.mount(&mut slots, &(), &name), Err(full));
+    assert!(rt; state.opened(1).is_none() && state.mapped.is_empty());
+    assert!(rt; state.mounted.is_empty() && state.status(1));
+    Ok(())
+}
+
+#[test]
+fn a_slot_is_free_where_it_has_a_generation_left(rt: HostRuntime) -> Result<(), Fail> {
+    let mut gens = fresh_gens(rt.alloc())?;
+    set_generation(&mut gens, 0, LAST_GENERATION);
+    set_generation(&mut gens, 2, LAST_GENERATION - 1);
+    assert_eq!(rt; free_slot(gens.as_slice(), &[]), Some(1));
+    assert_eq!(rt; free_slot(gens.as_slice(), &[(1, 1)]), Some(2));
     Ok(())
 }

@@ -23,7 +23,8 @@ use Rattle.key_store.specs.declared.state.FamilyRecord.{FamilyRecord}
 use Rattle.key_ciphers.specs.Ciphers.{ciphers}
 use Rattle.key_store.specs.Calls.{stepped}
 use Rattle.key_store.specs.NewRoot.{IsToldFamily}
-use Rattle.key_store.specs.State.{plain_of, stored_of, stored_records, IsKept}
+use Rattle.key_store.specs.State.{plain_of, stored_of, stored_records, AreCounted, IsKept}
+use Rattle.key_store.proofs.UseLemmas.{as_many, rising_counts, created_counted}
 use Rattle.key_store.proofs.RecordLemmas.{rising_records, with_id-stored}
 use Rattle.key_store.proofs.RoomLemmas.{one_more_row}
 use Rattle.key_store.proofs.CreateLemmas.{few_families, given_id, heir_encrypted, heir_step, heir_sound, heir_opens, heir_state}
@@ -52,7 +53,18 @@ put_with_room-requires-clause-room c =
     let same : length before.wrapped ≡ length c.self.inside.records.items = length-map c.self.inside.records.items (λ entry. (entry.0, stored_of entry.1)) in
     omega (arith, few, same, c.self.invariant.room.records)
 
-module _ (c : goal.After-put_with_room) where
+pub put_with_room-requires-2-clause-rising : goal.put_with_room-requires-2-clause-rising
+put_with_room-requires-2-clause-rising c = rising_counts ciphers (plain_of c.self.inside) c.self.invariant.sound c.self.inside.mkey_counts.items c.self.invariant.mkeys
+
+pub put_with_room-requires-2-clause-room : goal.put_with_room-requires-2-clause-room
+put_with_room-requires-2-clause-room c =
+    let before : Plain = plain_of c.self.inside in
+    let is : IsFree before c.args.name.now c.args.opts.now = is_free before c.args.self.now c.args.name.now c.args.opts.now c.self.view_is c.requires.accepted in
+    let heir : makes_heir before c.args.name.now c.args.opts.now ≡ true = is_heir before c.args.self.now c.args.name.now c.args.opts.now c.self.view_is c.requires.heir in
+    let few : length before.wrapped < 32 = few_families before c.args.name.now c.args.opts.now is (heir_encrypted before c.args.name.now c.args.opts.now heir) in
+    omega (arith, few, as_many before c.self.inside.mkey_counts.items c.self.invariant.mkeys, c.self.invariant.room.mkeys)
+
+module _ (c : goal.After-put_with_room-2) where
   abbrev before : Plain
   before = plain_of c.self.inside
 
@@ -101,6 +113,9 @@ invariant_of-self-2 c =
       by_family = c.self.invariant.by_family;
       opened = subst (λ (p : Plain). AreOpened ciphers p c.self.inside.opened.items) (sym (made c))
           (created_opened ciphers (before c) c.args.name.now c.args.opts.now (facts c) false true c.self.inside.opened.items c.self.invariant.sound (accepted c) c.self.invariant.opened);
+      mkeys = subst (λ (p : Plain). AreCounted p c.put_with_room-2.new.entries.items) (sym (made c))
+          (created_counted ciphers (before c) c.args.name.now c.args.opts.now (facts c) false true c.self.inside.mkey_counts.items c.put_with_room-2.new.entries.items c.self.invariant.sound (accepted c) c.self.invariant.mkeys
+          (c.put_with_room-2.ensures.put ∙ ap (λ n. with_id n 0 c.self.inside.mkey_counts.items) c.in_ok-id.ensures.id));
       room = record {
         datasets = one_more_row (before c).tree c.add_free.new.tree c.args.name.now Crypt c.in_ok-id.ensures.added (free (before c) c.args.name.now c.args.opts.now (accepted c)).rows;
         records = omega (arith, c.self.invariant.room.records, c.put_with_room.ensures.room);
@@ -108,6 +123,7 @@ invariant_of-self-2 c =
         mapped = c.self.invariant.room.mapped;
         mounted = c.self.invariant.room.mounted;
         opened = c.self.invariant.room.opened;
+        mkeys = omega (arith, c.self.invariant.room.mkeys, c.put_with_room-2.ensures.room);
       };
     }
 

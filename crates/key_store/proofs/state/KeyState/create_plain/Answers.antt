@@ -1,4 +1,4 @@
-use Rattle.std.proofs.Common.{◌≡◌, false, None, sym, subst}
+use Rattle.std.proofs.Common.{◌≡◌, false, None, refl, sym, subst}
 use Rattle.dataset_tree.specs.declared.kinds.Kind.TheVariants.{Plain as PlainKind}
 use Rattle.dataset_tree.specs.Tree.{Datasets, with_row}
 use Rattle.encryption_roots.specs.declared.command.KeyCmd.TheVariants as commands
@@ -9,7 +9,8 @@ use Rattle.key_machine.specs.Told.{nothing_told}
 use Rattle.key_machine.specs.Sound.{Sound}
 use Rattle.key_ciphers.specs.Ciphers.{ciphers}
 use Rattle.key_store.proofs.OpenedLemmas.{AreOpened, created_opened}
-use Rattle.key_store.specs.State.{plain_of}
+use Rattle.key_store.proofs.UseLemmas.{created_counted}
+use Rattle.key_store.specs.State.{plain_of, AreCounted}
 use Rattle.key_machine.proofs.CreateLawsStep.{free}
 use Rattle.key_store.proofs.RoomLemmas.{one_more_row}
 use Rattle.key_store.proofs.CreateLemmas.{given_id, plain_sound}
@@ -35,6 +36,8 @@ invariant_of-self-2 c =
       by_family = c.self.invariant.by_family;
       opened = subst (λ (t : Datasets). AreOpened ciphers (record before { tree = t }) c.self.inside.opened.items) (sym c.in_ok-id.ensures.added)
           (created_opened ciphers before c.args.name.now c.args.opts.now nothing_told false false c.self.inside.opened.items c.self.invariant.sound accepted c.self.invariant.opened);
+      mkeys = subst (λ (t : Datasets). AreCounted (record before { tree = t }) c.self.inside.mkey_counts.items) (sym c.in_ok-id.ensures.added)
+          (created_counted ciphers before c.args.name.now c.args.opts.now nothing_told false false c.self.inside.mkey_counts.items c.self.inside.mkey_counts.items c.self.invariant.sound accepted c.self.invariant.mkeys refl);
       room = record {
         datasets = one_more_row before.tree c.add_free.new.tree c.args.name.now PlainKind c.in_ok-id.ensures.added (free before c.args.name.now c.args.opts.now accepted).rows;
         records = c.self.invariant.room.records;
@@ -42,5 +45,6 @@ invariant_of-self-2 c =
         mapped = c.self.invariant.room.mapped;
         mounted = c.self.invariant.room.mounted;
         opened = c.self.invariant.room.opened;
+        mkeys = c.self.invariant.room.mkeys;
       };
     }

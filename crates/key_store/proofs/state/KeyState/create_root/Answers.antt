@@ -24,7 +24,8 @@ use Rattle.key_store.specs.declared.state.FamilyRecord.{FamilyRecord}
 use Rattle.key_ciphers.specs.Ciphers.{ciphers}
 use Rattle.key_store.specs.Calls.{stepped}
 use Rattle.key_store.specs.NewRoot.{IsToldRoot}
-use Rattle.key_store.specs.State.{plain_of, stored_of, stored_records, IsKept}
+use Rattle.key_store.specs.State.{plain_of, stored_of, stored_records, AreCounted, IsKept}
+use Rattle.key_store.proofs.UseLemmas.{as_many, rising_counts, created_counted}
 use Rattle.key_store.proofs.RecordLemmas.{rising_records, with_id-stored}
 use Rattle.key_store.proofs.RoomLemmas.{on_err, on_ok, one_more_row, roots_fit, loaded_fit}
 use Rattle.key_machine.proofs.CreateLawsStep.{IsFree, free}
@@ -68,18 +69,29 @@ put_with_room-requires-2-clause-room c =
     let few : length before.tree.rows < 256 = is.rows in
     omega (arith, fit, few, c.self.invariant.room.loaded)
 
+pub put_with_room-requires-3-clause-rising : goal.put_with_room-requires-3-clause-rising
+put_with_room-requires-3-clause-rising c = rising_counts ciphers (plain_of c.self.inside) c.self.invariant.sound c.self.inside.mkey_counts.items c.self.invariant.mkeys
+
+pub put_with_room-requires-3-clause-room : goal.put_with_room-requires-3-clause-room
+put_with_room-requires-3-clause-room c =
+    let before : Plain = plain_of c.self.inside in
+    let is : IsFree before c.args.name.now c.args.opts.now = is_free before c.args.self.now c.args.name.now c.args.opts.now c.self.view_is c.requires.accepted in
+    let root : makes_root c.args.opts.now ≡ true = ap (λ format. is_some format) c.requires.root in
+    let few : length before.wrapped < 32 = few_families before c.args.name.now c.args.opts.now is (ap (λ b. b || (not b && is_below_encrypted before c.args.name.now)) root) in
+    omega (arith, few, as_many before c.self.inside.mkey_counts.items c.self.invariant.mkeys, c.self.invariant.room.mkeys)
+
 -- the root that is told, at the state that the fields show
-told_root : (c : goal.After-put_with_room-2) → IsToldRoot c.self.inside.tree.last c.args.opts.now (told ciphers (plain_of c.self.inside) (commands.Create c.args.name.now c.args.opts.now) c.args.kit.now) c.in_ok-root.root
+told_root : (c : goal.After-put_with_room-3) → IsToldRoot c.self.inside.tree.last c.args.opts.now (told ciphers (plain_of c.self.inside) (commands.Create c.args.name.now c.args.opts.now) c.args.kit.now) c.in_ok-root.root
 told_root c =
     subst (λ (p : Plain). IsToldRoot p.tree.last c.args.opts.now (told ciphers p (commands.Create c.args.name.now c.args.opts.now) c.args.kit.now) c.in_ok-root.root) (sym c.self.view_is) c.in_ok-root.ensures.root
 
-accepted_at : (c : goal.After-put_with_room-2) → refusal_of (plain_of c.self.inside) (commands.Create c.args.name.now c.args.opts.now) ≡ None
+accepted_at : (c : goal.After-put_with_room-3) → refusal_of (plain_of c.self.inside) (commands.Create c.args.name.now c.args.opts.now) ≡ None
 accepted_at c = ap (λ p. refusal_of p (commands.Create c.args.name.now c.args.opts.now)) c.self.view_is ∙ c.requires.accepted
 
-inserted : (c : goal.After-put_with_room-2) → c.insert.new.self ≡ with_id c.in_ok-id.id c.in_ok-root.root.props c.self.inside.roots
+inserted : (c : goal.After-put_with_room-3) → c.insert.new.self ≡ with_id c.in_ok-id.id c.in_ok-root.root.props c.self.inside.roots
 inserted c = on_ok c.insert.result (c.insert.new.self ≡ with_id c.in_ok-id.id c.in_ok-root.root.props c.self.inside.roots) c.insert.ensures.ok (sym c.is_err.ensures.value ∙ c.if-is_err.false)
 
-made : (c : goal.After-put_with_room-2)
+made : (c : goal.After-put_with_room-3)
     → record (plain_of c.self.inside) { tree = c.add_free.new.tree; roots = c.insert.new.self; wrapped = stored_records c.put_with_room.new.entries.items; loaded = c.put_with_room-2.new.entries.items }
     ≡ created_with (plain_of c.self.inside) c.args.name.now c.args.opts.now (told ciphers (plain_of c.self.inside) (commands.Create c.args.name.now c.args.opts.now) c.args.kit.now) true true
 made c =
@@ -113,6 +125,9 @@ invariant_of-self-2 c =
       by_family = c.self.invariant.by_family;
       opened = subst (λ (p : Plain). AreOpened ciphers p c.self.inside.opened.items) (sym (made c))
           (created_opened ciphers before c.args.name.now c.args.opts.now facts true true c.self.inside.opened.items c.self.invariant.sound (accepted_at c) c.self.invariant.opened);
+      mkeys = subst (λ (p : Plain). AreCounted p c.put_with_room-3.new.entries.items) (sym (made c))
+          (created_counted ciphers before c.args.name.now c.args.opts.now facts true true c.self.inside.mkey_counts.items c.put_with_room-3.new.entries.items c.self.invariant.sound (accepted_at c) c.self.invariant.mkeys
+          (c.put_with_room-3.ensures.put ∙ ap (λ n. with_id n 0 c.self.inside.mkey_counts.items) c.in_ok-id.ensures.id));
       room = record {
         datasets = one_more_row before.tree c.add_free.new.tree c.args.name.now Crypt c.in_ok-id.ensures.added (free before c.args.name.now c.args.opts.now (accepted_at c)).rows;
         records = omega (arith, c.self.invariant.room.records, c.put_with_room.ensures.room);
@@ -120,6 +135,7 @@ invariant_of-self-2 c =
         mapped = c.self.invariant.room.mapped;
         mounted = c.self.invariant.room.mounted;
         opened = c.self.invariant.room.opened;
+        mkeys = omega (arith, c.self.invariant.room.mkeys, c.put_with_room-3.ensures.room);
       };
     }
 

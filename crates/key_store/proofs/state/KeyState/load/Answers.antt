@@ -42,7 +42,8 @@ invariant_of-self c =
       by_family = c.self.invariant.by_family;
       opened = subst (λ (keys : List (ℕ × List ℕ)). AreOpened ciphers (record before { loaded = keys }) c.self.inside.opened.items) (sym c.in_ok-put_at_id.ensures.ok)
           (loaded_opened ciphers before root c.in-Ok-root_key.key c.self.inside.opened.items c.self.invariant.sound absent c.self.invariant.opened);
-      room = record { datasets = c.self.invariant.room.datasets; records = c.self.invariant.room.records; loaded = omega (arith, c.self.invariant.room.loaded, c.in_ok-put_at_id.ensures.room); mapped = c.self.invariant.room.mapped; mounted = c.self.invariant.room.mounted; opened = c.self.invariant.room.opened };
+      mkeys = c.self.invariant.mkeys;
+      room = record { datasets = c.self.invariant.room.datasets; records = c.self.invariant.room.records; loaded = omega (arith, c.self.invariant.room.loaded, c.in_ok-put_at_id.ensures.room); mapped = c.self.invariant.room.mapped; mounted = c.self.invariant.room.mounted; opened = c.self.invariant.room.opened; mkeys = c.self.invariant.room.mkeys };
     }
 
 -- the step at the state that is seen

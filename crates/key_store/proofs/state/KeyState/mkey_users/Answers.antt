@@ -1,12 +1,18 @@
-use Rattle.std.proofs.Common.{◌≡◌, ◌==◌, ◌≤◌, ℕ, List, arith, ap, ◌∙◌}
-use Rattle.std.specs.List.{count_by}
-use Rattle.encryption_roots.specs.Owners.{family}
-use Rattle.key_store.proofs.CountLemmas.{few_mapped}
+use Rattle.std.proofs.Common.{ℕ, List, ap, sym, ◌∙◌, subst}
+use Rattle.std.specs.Prelude.{unwrap_or}
+use Rattle.encryption_roots.specs.ById.{IsRisingById, at_id}
+use Rattle.key_machine.specs.Plain.{Plain}
+use Rattle.key_machine.specs.Users.{mkey_users}
+use Rattle.key_ciphers.specs.Ciphers.{ciphers}
+use Rattle.key_store.specs.State.{plain_of}
+use Rattle.key_store.proofs.UseLemmas.{rising_counts, users_at}
 use Rattle.key_store.proofs.state.KeyState.mkey_users.Goals as goal
 
-pub overflow_cast-result : goal.overflow_cast-result
-overflow_cast-result c =
-    let few : count_by (λ (mapping : ℕ × ℕ). family c.self.inside.tree.rows mapping.0 == c.args.family) c.self.inside.mapped.items ≤ 256 = few_mapped c.self.inside c.self.invariant (λ mapping. family c.self.inside.tree.rows mapping.0 == c.args.family) in
-    let counted : c.mapped_of.result ≡ count_by (λ (mapping : ℕ × ℕ). family c.self.inside.tree.rows mapping.0 == c.args.family) c.self.inside.mapped.items =
-    c.mapped_of.ensures ∙ ap (λ (m : List (ℕ × ℕ)). count_by (λ mapping. family c.self.inside.tree.rows mapping.0 == c.args.family) m) c.as_slice.ensures.value in
-    omega (arith, few, counted)
+pub uses_of-requires : goal.uses_of-requires
+uses_of-requires c =
+    subst (λ (entries : List (ℕ × ℕ)). IsRisingById entries) (sym c.as_slice.ensures.value) (rising_counts ciphers (plain_of c.self.inside) c.self.invariant.sound c.self.inside.mkey_counts.items c.self.invariant.mkeys)
+
+pub returns : goal.returns
+returns c =
+    c.uses_of.ensures ∙ ap (λ (entries : List (ℕ × ℕ)). unwrap_or (at_id c.args.family entries) 0) c.as_slice.ensures.value
+    ∙ users_at ciphers (plain_of c.self.inside) c.self.invariant.sound c.self.inside.mkey_counts.items c.args.family c.self.invariant.mkeys ∙ ap (λ (p : Plain). mkey_users p c.args.family) c.self.view_is

@@ -13,5 +13,6 @@ invariant_of-result c =
       props = rw c.in_ok-roots.ensures (All-nil _);
       by_family = rw c.in_ok-opened.ensures.items (λ i j d before within. absurd (omega arith));
       opened = λ first. rw (c.in_ok-opened.ensures.items, c.in_ok-mapped.ensures.items) refl;
-      room = record { datasets = rw c.in_ok-tree.ensures (omega arith); records = omega (arith, c.in_ok-records.ensures.capacity); loaded = omega (arith, c.in_ok-loaded.ensures.capacity); mapped = omega (arith, c.in_ok-mapped.ensures.capacity); mounted = omega (arith, c.in_ok-mounted.ensures.capacity); opened = omega (arith, c.in_ok-opened.ensures.capacity) };
+      mkeys = rw (c.in_ok-mkey_counts.ensures.items, c.in_ok-records.ensures.items) refl;
+      room = record { datasets = rw c.in_ok-tree.ensures (omega arith); records = omega (arith, c.in_ok-records.ensures.capacity); loaded = omega (arith, c.in_ok-loaded.ensures.capacity); mapped = omega (arith, c.in_ok-mapped.ensures.capacity); mounted = omega (arith, c.in_ok-mounted.ensures.capacity); opened = omega (arith, c.in_ok-opened.ensures.capacity); mkeys = omega (arith, c.in_ok-mkey_counts.ensures.capacity) };
     }
