@@ -15,7 +15,7 @@ use Rattle.key_machine.specs.Reply.{Reply, Done, Made, Text, Refused, Reaped, Sk
 use Rattle.key_machine.specs.Step.{refusal_of, wanted}
 use Rattle.key_machine.specs.Told.{Wanted}
 use Rattle.key_store.specs.declared.needs.Needs.{Needs}
-use Rattle.key_store.specs.Calls.{stepped, state_after, needs_of, needed, needed_unless, AnswersMade, AnswersDone}
+use Rattle.key_store.specs.Calls.{needs_of, needed, needed_unless, AnswersMade, AnswersDone}
 use Rattle.shell_lines.specs.declared.line.Line.{Line}
 use Rattle.shell_lines.specs.declared.line.LineStop.{LineStop}
 use Rattle.shell_lines.specs.declared.line.LineStop.TheVariants as line_stops
@@ -31,7 +31,7 @@ use lib.Chars.{codes}
 use Rattle.std.specs.List.{AllByRecursion}
 use Rattle.dataset_tree.specs.declared.tree.Row.{Row}
 use Rattle.shell_run.specs.Answers.{Acts, ActsAs, Agrees, Executes, GivesKit, HaltsAt, HaltsIn, HasAnswer, IsDone, PerformsOne, Replies, TakesKit, WhereTold, settled, shown_output, shown_report, spot_of, unspelled, wants_of, well_count, well_of}
-use Rattle.shell_run.specs.Hosts.{host_step}
+use Rattle.shell_run.specs.Hosts.{HostState, host_after, host_step}
 use Rattle.shell_run.specs.Outer.{Outer, Takes, left_after}
 use Rattle.shell_run.specs.Ran.{IsFront}
 use Rattle.shell_run.specs.Script.{Script, ToldScript, script_told}
@@ -44,7 +44,7 @@ use Rattle.shell_run.proofs.TakingLemmas.{takes_none}
 
 -- ---- worlds that are told
 
-told_each_of : (p : Plain) (f : Option (List (List ℕ × List ℕ))) (e : Option (List ℕ)) (s : Option Script) (P : World → Type 0)
+told_each_of : (p : HostState) (f : Option (List (List ℕ × List ℕ))) (e : Option (List ℕ)) (s : Option Script) (P : World → Type 0)
     → ((files : List (List ℕ × List ℕ)) (left : List ℕ) (script : Script) → f ≡ Some files → e ≡ Some left → s ≡ Some script → P (world_of p files left script))
     → IfSome (option_and_then (λ (files : List (List ℕ × List ℕ)). option_and_then (λ (left : List ℕ). option_map (world_of p files left) s) e) f) P
 told_each_of p None e s P holds = tt
@@ -52,31 +52,31 @@ told_each_of p (Some files) None s P holds = tt
 told_each_of p (Some files) (Some left) None P holds = tt
 told_each_of p (Some files) (Some left) (Some script) P holds = holds files left script refl refl refl
 
-pub told_each : (p : Plain) (outer : Outer) (told : ToldScript) (P : World → Type 0)
+pub told_each : (p : HostState) (outer : Outer) (told : ToldScript) (P : World → Type 0)
     → ((files : List (List ℕ × List ℕ)) (left : List ℕ) (script : Script) → outer.files ≡ Some files → outer.entropy ≡ Some left → script_told told ≡ Some script → P (world_of p files left script)) → IfSome (told_world p outer told) P
 told_each p outer told P holds = told_each_of p outer.files outer.entropy (script_told told) P holds
 
-pub told_of : (p : Plain) (outer : Outer) (told : ToldScript) (files : List (List ℕ × List ℕ)) (left : List ℕ) (script : Script) → outer.files ≡ Some files → outer.entropy ≡ Some left → script_told told ≡ Some script
+pub told_of : (p : HostState) (outer : Outer) (told : ToldScript) (files : List (List ℕ × List ℕ)) (left : List ℕ) (script : Script) → outer.files ≡ Some files → outer.entropy ≡ Some left → script_told told ≡ Some script
     → told_world p outer told ≡ Some (world_of p files left script)
 told_of p outer told files left script f e s =
     ap (λ (o : Option (List (List ℕ × List ℕ))). option_and_then (λ (files : List (List ℕ × List ℕ)). option_and_then (λ (left : List ℕ). option_map (world_of p files left) (script_told told)) outer.entropy) o) f
     ∙ ap (λ (o : Option (List ℕ)). option_and_then (λ (left : List ℕ). option_map (world_of p files left) (script_told told)) o) e ∙ ap (λ (o : Option Script). option_map (world_of p files left) o) s
 
 -- the world that a line leaves, after what it took
-told_after : (n : ℕ) (p : Plain) (a d : Outer) (told : ToldScript) (files : List (List ℕ × List ℕ)) (left : List ℕ) (later : Script) (made : List Taking) → Takes (λ line. line ≡ n) made a d → a.files ≡ Some files → a.entropy ≡ Some left → script_told told ≡ Some later
+told_after : (n : ℕ) (p : HostState) (a d : Outer) (told : ToldScript) (files : List (List ℕ × List ℕ)) (left : List ℕ) (later : Script) (made : List Taking) → Takes (λ line. line ≡ n) made a d → a.files ≡ Some files → a.entropy ≡ Some left → script_told told ≡ Some later
     → told_world p d told ≡ Some (world_of p files (left_after (fills_of made) left) later)
 told_after n p a d told files left later made takes f e s =
     told_of p d told files (left_after (fills_of made) left) later (takes.files ∙ f) (told_at a.entropy left (λ l. d.entropy ≡ Some (left_after (fills_of made) l)) e takes.entropy) s
 
-keys_of : (p : Plain) (f : Option (List (List ℕ × List ℕ))) (e : Option (List ℕ)) (s : Option Script) (w : World)
-    → option_and_then (λ (files : List (List ℕ × List ℕ)). option_and_then (λ (left : List ℕ). option_map (world_of p files left) s) e) f ≡ Some w → w.present.keys ≡ p
-keys_of p None e s w told = absurd (cc)
-keys_of p (Some files) None s w told = absurd (cc)
-keys_of p (Some files) (Some left) None w told = absurd (cc)
-keys_of p (Some files) (Some left) (Some script) w told = let same : world_of p files left script ≡ w = cc in sym (ap (λ (v : World). v.present.keys) same)
+host_of : (p : HostState) (f : Option (List (List ℕ × List ℕ))) (e : Option (List ℕ)) (s : Option Script) (w : World)
+    → option_and_then (λ (files : List (List ℕ × List ℕ)). option_and_then (λ (left : List ℕ). option_map (world_of p files left) s) e) f ≡ Some w → w.present ≡ p
+host_of p None e s w told = absurd (cc)
+host_of p (Some files) None s w told = absurd (cc)
+host_of p (Some files) (Some left) None w told = absurd (cc)
+host_of p (Some files) (Some left) (Some script) w told = let same : world_of p files left script ≡ w = cc in sym (ap (λ (v : World). v.present) same)
 
-pub keys_told : (p : Plain) (outer : Outer) (script : ToldScript) (w : World) → told_world p outer script ≡ Some w → w.present.keys ≡ p
-keys_told p outer script w told = keys_of p outer.files outer.entropy (script_told script) w told
+pub host_told : (p : HostState) (outer : Outer) (script : ToldScript) (w : World) → told_world p outer script ≡ Some w → w.present ≡ p
+host_told p outer script w told = host_of p outer.files outer.entropy (script_told script) w told
 
 pub on_told : (world : Option World) (P Q : World → Type 0) → ((w : World) → P w → Q w) → IfSome world P → IfSome world Q
 on_told None P Q follows holds = tt
@@ -114,20 +114,20 @@ refused_by p command why None gives = absurd (cc)
 refused_by p command why (Some other) gives = cc
 
 -- a command that the state refuses, or for which memory was wanting to see that
-pub executed_at_once : (n part : ℕ) (p : Plain) (command : KeyCmd) (outer : Outer) (script : ToldScript) (stop : Stop) → Gives (let stopped : Result Needs Stop = Err stop in stopped) (needed p command)
+pub executed_at_once : (n part : ℕ) (p : HostState) (command : KeyCmd) (outer : Outer) (script : ToldScript) (stop : Stop) → Gives (let stopped : Result Needs Stop = Err stop in stopped) (needed p.keys command)
     → ActsAs n part outer outer (λ made. WhereTold (told_world p outer script) made (λ entries w. Executes (settled (Err stop)) (commanded (spot_of n part entries) w command) (told_world p outer script) made))
 executed_at_once n part p command outer script (stops.Refused why) gives =
     acts_not n part outer (λ made. WhereTold (told_world p outer script) made (λ entries w. Executes (Ok (Err why)) (commanded (spot_of n part entries) w command) (told_world p outer script) made))
     (λ entries agrees. told_each p outer script (λ w. Executes (Ok (Err why)) (commanded (spot_of n part entries) w command) (told_world p outer script) []) (λ files left here f e s.
     let w : World = world_of p files left here in
-    let done : commanded (spot_of n part entries) w command ≡ refused_at_once w why = ap (unless_refused (spot_of n part entries) w command) (refused_by p command why (refusal_of p command) gives) in
+    let done : commanded (spot_of n part entries) w command ≡ refused_at_once w why = ap (unless_refused (spot_of n part entries) w command) (refused_by p.keys command why (refusal_of p.keys command) gives) in
     subst (λ (d : Outcome). Executes (Ok (Err why)) d (told_world p outer script) []) (sym done) (refl, told_of p outer script files left here f e s, refl)))
 executed_at_once n part p command outer script stops.NoMemory gives =
     acts_not n part outer (λ made. WhereTold (told_world p outer script) made (λ entries w. Executes (Err NoMemory) (commanded (spot_of n part entries) w command) (told_world p outer script) made))
     (λ entries agrees. told_each p outer script (λ w. Executes (Err NoMemory) (commanded (spot_of n part entries) w command) (told_world p outer script) []) (λ files left here f e s. front_nil _))
 
-finish : (result : Result Shown Stop) (reply : Reply) (now : Option World) (old new state : Plain) (files : List (List ℕ × List ℕ)) (left : List ℕ) (later : Script) (made : List Taking) → Replies result reply
-    → new ≡ state_after result old state → now ≡ Some (world_of new files left later) → Executes (settled result) (Does record { world = world_of state files left later; reply = reply; takings = made }) now made
+finish : (result : Result Shown Stop) (reply : Reply) (now : Option World) (old new state : HostState) (files : List (List ℕ × List ℕ)) (left : List ℕ) (later : Script) (made : List Taking) → Replies result reply
+    → new ≡ host_after result old state → now ≡ Some (world_of new files left later) → Executes (settled result) (Does record { world = world_of state files left later; reply = reply; takings = made }) now made
 finish (Ok shown) reply now old new state files left later made replies after told = (replies, told ∙ ap (λ p. Some (world_of p files left later)) after, refl)
 finish (Err (stops.Refused why)) reply now old new state files left later made replies after told = (replies, told ∙ ap (λ p. Some (world_of p files left later)) after, refl)
 finish (Err stops.NoMemory) reply now old new state files left later made replies after told = front_all made made refl
@@ -141,16 +141,16 @@ kit_at n part wants entries a sa sd made result files left script f e s takes =
     (told_at a.files files (λ x. IfSome a.entropy (λ l. IfSome (script_told sa) (λ here. GivesKit result (kit_of (spot_of n part entries) x l here wants) (script_told sd) made))) f takes))
 
 -- what an accepted command is, by what it wants
-accepted_is : (p : Plain) (command : KeyCmd) (needs : Needs) (spot : Spot) (files : List (List ℕ × List ℕ)) (left : List ℕ) (script : Script) → needed p command ≡ Ok needs
+accepted_is : (p : HostState) (command : KeyCmd) (needs : Needs) (spot : Spot) (files : List (List ℕ × List ℕ)) (left : List ℕ) (script : Script) → needed p.keys command ≡ Ok needs
     → commanded spot (world_of p files left script) command ≡ supplied (world_of p files left script) command (kit_of spot files left script (wants_of needs))
 accepted_is p command needs spot files left script known =
     let w : World = world_of p files left script in
-    let both = accepted_by p command needs (refusal_of p command) known in
+    let both = accepted_by p.keys command needs (refusal_of p.keys command) known in
     ap (unless_refused spot w command) both.0 ∙ ap (λ (wants : Wanted). supplied w command (kit_of spot files left script wants)) both.1
 
-pub executed : (n part : ℕ) (p new : Plain) (command : KeyCmd) (needs : Needs) (kit : LineKit) (a d : Outer) (sa sd : ToldScript) (result : Result Shown Stop) → needed p command ≡ Ok needs
+pub executed : (n part : ℕ) (p new : HostState) (command : KeyCmd) (needs : Needs) (kit : LineKit) (a d : Outer) (sa sd : ToldScript) (result : Result Shown Stop) → needed p.keys command ≡ Ok needs
     → ActsAs n part a d (λ made. (entries : List FoundEntry) → Agrees entries made → TakesKit (Ok kit) n part (wants_of needs) entries a sa sd made)
-    → Replies result (host_step p command kit).reply → new ≡ state_after result p (host_step p command kit).state
+    → Replies result (host_step p command kit).reply → new ≡ host_after result p (host_step p command kit).state
     → ActsAs n part a d (λ made. WhereTold (told_world p a sa) made (λ entries w. Executes (settled result) (commanded (spot_of n part entries) w command) (told_world new d sd) made))
 executed n part p new command needs kit a d sa sd result known acts replies after = record {
   made = acts.made;
@@ -179,7 +179,7 @@ halted ReadFault w command (Lacks number at takings) new made gives = gives
 halted NoMemory w command (Has kit left takings) new made gives = gives
 halted NoMemory w command (Lacks number at takings) new made gives = gives
 
-pub executed_stopped : (n part : ℕ) (p : Plain) (command : KeyCmd) (needs : Needs) (halt : Halt) (a d : Outer) (sa sd : ToldScript) → needed p command ≡ Ok needs
+pub executed_stopped : (n part : ℕ) (p : HostState) (command : KeyCmd) (needs : Needs) (halt : Halt) (a d : Outer) (sa sd : ToldScript) → needed p.keys command ≡ Ok needs
     → ActsAs n part a d (λ made. (entries : List FoundEntry) → Agrees entries made → TakesKit (Err halt) n part (wants_of needs) entries a sa sd made)
     → ActsAs n part a d (λ made. WhereTold (told_world p a sa) made (λ entries w. Executes (Err halt) (commanded (spot_of n part entries) w command) (told_world p d sd) made))
 executed_stopped n part p command needs halt a d sa sd known acts = record {
@@ -243,17 +243,17 @@ shown_refused n p reports.Sets command why = refl
 shown_refused n p reports.Counts command why = refl
 shown_refused n p (reports.Refused other) command why = refl
 
-performed_one_by : (n : ℕ) (p : Plain) (outer : Outer) (script : ToldScript) (report : Report) (command : KeyCmd) (shown : Result Shown Refusal) (outcome : Outcome) (result : Result ℕ Halt) (before after : List ℕ) (made : List Taking)
-    → Executes (Ok shown) outcome (told_world p outer script) made → OnOk result (after ≡ before ++ shown_report n p.tree.rows report command shown) → IfOk result (λ count. count ≡ well_count shown) → OnErr result (result ≡ Err NoMemory)
+performed_one_by : (n : ℕ) (p : HostState) (outer : Outer) (script : ToldScript) (report : Report) (command : KeyCmd) (shown : Result Shown Refusal) (outcome : Outcome) (result : Result ℕ Halt) (before after : List ℕ) (made : List Taking)
+    → Executes (Ok shown) outcome (told_world p outer script) made → OnOk result (after ≡ before ++ shown_report n p.keys.tree.rows report command shown) → IfOk result (λ count. count ≡ well_count shown) → OnErr result (result ≡ Err NoMemory)
     → PerformsOne result n report command outcome (told_world p outer script) before after made
 performed_one_by n p outer script report command (Ok shown) (Does done) (Ok count) before after made executes printed counted ended =
-    let keys : done.world.present.keys ≡ p = keys_told p outer script done.world executes.1 in
-    let text = shown_done n p report command shown done.reply executes.0 in
-    (executes.1, printed ∙ ap (λ out. before ++ out) (text.0 ∙ ap (λ q. reported n q report command done.reply) (sym keys)), executes.2, counted ∙ text.1)
+    let same : done.world.present ≡ p = host_told p outer script done.world executes.1 in
+    let text = shown_done n p.keys report command shown done.reply executes.0 in
+    (executes.1, printed ∙ ap (λ out. before ++ out) (text.0 ∙ ap (λ q. reported n q.keys report command done.reply) (sym same)), executes.2, counted ∙ text.1)
 performed_one_by n p outer script report command (Err why) (Does done) (Ok count) before after made executes printed counted ended =
-    let keys : done.world.present.keys ≡ p = keys_told p outer script done.world executes.1 in (
+    let same : done.world.present ≡ p = host_told p outer script done.world executes.1 in (
       executes.1,
-      printed ∙ ap (λ out. before ++ out) (shown_refused n p report command why ∙ ap (reported n p report command) (sym executes.0) ∙ ap (λ q. reported n q report command done.reply) (sym keys)),
+      printed ∙ ap (λ out. before ++ out) (shown_refused n p.keys report command why ∙ ap (reported n p.keys report command) (sym executes.0) ∙ ap (λ q. reported n q.keys report command done.reply) (sym same)),
       executes.2,
       counted ∙ ap well_of (sym executes.0),
     )
@@ -264,9 +264,9 @@ performed_one_by n p outer script report command (Err why) (Does done) (Err halt
 performed_one_by n p outer script report command (Ok shown) (Halts number at w takings) result before after made executes printed counted ended = absurd executes
 performed_one_by n p outer script report command (Err why) (Halts number at w takings) result before after made executes printed counted ended = absurd executes
 
-pub performed_one : (n part : ℕ) (p new : Plain) (a d : Outer) (sa sd : ToldScript) (report : Report) (command : KeyCmd) (shown : Result Shown Refusal) (result : Result ℕ Halt) (before after : List ℕ)
+pub performed_one : (n part : ℕ) (p new : HostState) (a d : Outer) (sa sd : ToldScript) (report : Report) (command : KeyCmd) (shown : Result Shown Refusal) (result : Result ℕ Halt) (before after : List ℕ)
     → ActsAs n part a d (λ made. WhereTold (told_world p a sa) made (λ entries w. Executes (Ok shown) (commanded (spot_of n part entries) w command) (told_world new d sd) made))
-    → OnOk result (after ≡ before ++ shown_report n new.tree.rows report command shown) → IfOk result (λ count. count ≡ well_count shown) → OnErr result (result ≡ Err NoMemory)
+    → OnOk result (after ≡ before ++ shown_report n new.keys.tree.rows report command shown) → IfOk result (λ count. count ≡ well_count shown) → OnErr result (result ≡ Err NoMemory)
     → ActsAs n part a d (λ made. WhereTold (told_world p a sa) made (λ entries w. PerformsOne result n report command (commanded (spot_of n part entries) w command) (told_world new d sd) before after made))
 performed_one n part p new a d sa sd report command shown result before after acts printed counted ended = record {
   made = acts.made;
@@ -283,14 +283,14 @@ performed_one n part p new a d sa sd report command shown result before after ac
 -- ---- a line
 
 -- bytes that spell a line
-pub spelled_ok : (n : ℕ) (p new : Plain) (a d : Outer) (sa sd : ToldScript) (line : Line) (outcome : Result Line ℕ) (result : Result (Unit {0}) Halt) (before after : List ℕ) → outcome ≡ Ok line
+pub spelled_ok : (n : ℕ) (p new : HostState) (a d : Outer) (sa sd : ToldScript) (line : Line) (outcome : Result Line ℕ) (result : Result (Unit {0}) Halt) (before after : List ℕ) → outcome ≡ Ok line
     → Acts n a d (λ made. WhereTold (told_world p a sa) made (λ entries w. HasAnswer result (answer_of n entries w line) (told_world new d sd) before after made))
     → Acts n a d (λ made. WhereTold (told_world p a sa) made (λ entries w. HasAnswer result (answer_if n entries w outcome) (told_world new d sd) before after made))
 spelled_ok n p new a d sa sd line outcome result before after spells acts =
     subst (λ (o : Result Line ℕ). Acts n a d (λ made. WhereTold (told_world p a sa) made (λ entries w. HasAnswer result (answer_if n entries w o) (told_world new d sd) before after made))) (sym spells) acts
 
 -- bytes that spell none, or for which memory was wanting
-pub spelled_not : (n : ℕ) (p : Plain) (outer : Outer) (script : ToldScript) (stop : LineStop) (outcome : Result Line ℕ) (before after : List ℕ) → Spells (Err stop) outcome
+pub spelled_not : (n : ℕ) (p : HostState) (outer : Outer) (script : ToldScript) (stop : LineStop) (outcome : Result Line ℕ) (before after : List ℕ) → Spells (Err stop) outcome
     → Acts n outer outer (λ made. WhereTold (told_world p outer script) made (λ entries w. HasAnswer (Err (unspelled n stop)) (answer_if n entries w outcome) (told_world p outer script) before after made))
 spelled_not n p outer script (line_stops.Bad at) outcome before after bad =
     nothing_acts n outer (λ made. WhereTold (told_world p outer script) made (λ entries w. HasAnswer (Err (BadLine n at)) (answer_if n entries w outcome) (told_world p outer script) before after made))
@@ -310,23 +310,23 @@ pub replies_done : (stop : Stop) (reply : Reply) → AnswersDone (let stopped : 
 replies_done (stops.Refused why) reply answers = answers
 replies_done stops.NoMemory reply answers = tt
 
-pub same_state : (T : Type 0) (stop : Stop) (before after : Plain) → state_after (let stopped : Result T Stop = Err stop in stopped) before after ≡ state_after (let stopped : Result Shown Stop = Err stop in stopped) before after
+pub same_state : (T : Type 0) (stop : Stop) (before after : HostState) → host_after (let stopped : Result T Stop = Err stop in stopped) before after ≡ host_after (let stopped : Result Shown Stop = Err stop in stopped) before after
 same_state T (stops.Refused why) before after = refl
 same_state T stops.NoMemory before after = refl
 
 -- a load, which is the same from every place
 
-pub loaded_replies : (p : Plain) (command : KeyCmd) (name : List ℕ) (check_only : Bool) (place : Option Location) (kit : LineKit) → command ≡ commands.Load name check_only place
-    → ((from : Option Location) → AnswersDone (let done : Result (Unit {0}) Stop = Ok tt in done) (stepped p (commands.Load name check_only from) kit).reply) → Replies (Ok shows.Done) (host_step p command kit).reply
+pub loaded_replies : (p : HostState) (command : KeyCmd) (name : List ℕ) (check_only : Bool) (place : Option Location) (kit : LineKit) → command ≡ commands.Load name check_only place
+    → ((from : Option Location) → AnswersDone (let done : Result (Unit {0}) Stop = Ok tt in done) (host_step p (commands.Load name check_only from) kit).reply) → Replies (Ok shows.Done) (host_step p command kit).reply
 loaded_replies p command name check_only place kit is answers =
     let done : (host_step p command kit).reply ≡ Done = ap (λ (c : KeyCmd). (host_step p c kit).reply) is ∙ answers place in
     subst IsDone (sym done) tt
 
-pub unloaded_replies : (p : Plain) (command : KeyCmd) (name : List ℕ) (check_only : Bool) (place : Option Location) (kit : LineKit) (stop : Stop) → command ≡ commands.Load name check_only place
-    → ((from : Option Location) → AnswersDone (let stopped : Result (Unit {0}) Stop = Err stop in stopped) (stepped p (commands.Load name check_only from) kit).reply) → Replies (Err stop) (host_step p command kit).reply
+pub unloaded_replies : (p : HostState) (command : KeyCmd) (name : List ℕ) (check_only : Bool) (place : Option Location) (kit : LineKit) (stop : Stop) → command ≡ commands.Load name check_only place
+    → ((from : Option Location) → AnswersDone (let stopped : Result (Unit {0}) Stop = Err stop in stopped) (host_step p (commands.Load name check_only from) kit).reply) → Replies (Err stop) (host_step p command kit).reply
 unloaded_replies p command name check_only place kit stop is answers =
-    subst (λ (c : KeyCmd). Replies (Err stop) (host_step p c kit).reply) (sym is) (replies_done stop (stepped p (commands.Load name check_only place) kit).reply (answers place))
+    subst (λ (c : KeyCmd). Replies (Err stop) (host_step p c kit).reply) (sym is) (replies_done stop (host_step p (commands.Load name check_only place) kit).reply (answers place))
 
-pub loaded_state : (T : Type 0) (p new : Plain) (command : KeyCmd) (name : List ℕ) (check_only : Bool) (place : Option Location) (kit : LineKit) (result : Result T Stop) → command ≡ commands.Load name check_only place
-    → ((from : Option Location) → new ≡ state_after result p (stepped p (commands.Load name check_only from) kit).state) → new ≡ state_after result p (host_step p command kit).state
-loaded_state T p new command name check_only place kit result is state = state place ∙ ap (λ (c : KeyCmd). state_after result p (host_step p c kit).state) (sym is)
+pub loaded_state : (T : Type 0) (p new : HostState) (command : KeyCmd) (name : List ℕ) (check_only : Bool) (place : Option Location) (kit : LineKit) (result : Result T Stop) → command ≡ commands.Load name check_only place
+    → ((from : Option Location) → new ≡ host_after result p (host_step p (commands.Load name check_only from) kit).state) → new ≡ host_after result p (host_step p command kit).state
+loaded_state T p new command name check_only place kit result is state = state place ∙ ap (λ (c : KeyCmd). host_after result p (host_step p c kit).state) (sym is)

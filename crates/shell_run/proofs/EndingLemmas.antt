@@ -7,18 +7,19 @@ use Rattle.std.proofs.lemmas.Bool.Decides.{nat_tests}
 use Rattle.edge_io.specs.Counts.{one_more, raised}
 use Rattle.edge_io.specs.Entropy.{is_short}
 use Rattle.edge_io.specs.Faults.{Rose}
-use Rattle.key_machine.specs.Plain.{no_keys}
 use Rattle.shell_run.specs.declared.ending.Ending.{Ending}
 use Rattle.shell_run.specs.declared.ending.Ending.TheVariants.{Done, Usage, BadLine, ReadFault, WriteFault, NoMemory}
 use Rattle.shell_run.specs.declared.found.FoundEntry.{FoundEntry}
 use Rattle.shell_run.specs.Answers.{Agrees}
 use Rattle.shell_run.specs.Endings.{status_of, closing_line, SourceFaults, SinkFaults, ClosesAs}
+use Rattle.shell_run.specs.Hosts.{no_host}
 use Rattle.shell_run.specs.Outer.{Outer, Takes, FailWhereListedOrShort, failed_count}
 use Rattle.shell_run.specs.Progress.{Taken, Ends as EndsSo, RunsFrom}
 use Rattle.shell_run.specs.Ran.{IsAnswered, IsFront, Came, Closes, Took, Ran, last_line, WroteLast}
 use Rattle.shell_run.specs.Script.{script_of}
 use Rattle.shell_run.specs.Takings.{Taking, failures, is_fetch, is_fill, fetches_of, fills_of}
 use Rattle.shell_run.specs.Transcript.{World, told_world, Run, Turn, replies_of, made_in, output_of, transcript, told_transcript}
+use Rattle.shell_run.specs.Words.{default_limit}
 use Rattle.shell_run.proofs.CommandLemmas.{front_nil}
 use Rattle.shell_run.proofs.RunLemmas.{flat_map_both, unanswered}
 use Rattle.shell_run.proofs.TakingLemmas.{agrees_failures, outcomes_both}
@@ -298,15 +299,15 @@ ran_told (Some run) e closed t0 t1 t2 f0 f1 f2 old new made takes found ends clo
 pub same_names : (a b d e x y z w : ℕ) → a ∷ b ∷ d ∷ e ∷ [] ≡ x ∷ y ∷ z ∷ w ∷ [] → (a ≡ x) × (b ≡ y) × (d ≡ z) × (e ≡ w)
 same_names a b d e x y z w same = (cc, cc, cc, cc)
 
-pub ran : {W : Type 0} (words : List W) (script : Option (List ℕ)) (e closed : Ending) (t0 t1 t2 : Option (List ℕ)) (f0 f1 f2 : ℕ) (old new : Outer) → old.found ≡ []
-    → RunsFrom (λ line. line ≤ 1048576) old new (λ found made. IfSome (told_world no_keys old (script_of 1 script)) (λ w. EndsSo e (transcript words found w) made t0 t1))
+pub ran : (tells : Bool) (words : List (List ℕ)) (script : Option (List ℕ)) (e closed : Ending) (t0 t1 t2 : Option (List ℕ)) (f0 f1 f2 : ℕ) (old new : Outer) → old.found ≡ []
+    → RunsFrom (λ line. line ≤ 1048576) old new (λ found made. IfSome (told_world (no_host tells default_limit) old (script_of 1 script)) (λ w. EndsSo e (transcript words found w) made t0 t1))
     → ClosesAs e closed → SinkFaults (Some e) f0 f1 → WroteLast (closing_line closed) t1 t2 f1 f2 → (closing_line closed ≡ [] → (f2 ≡ f1) × (t2 ≡ t1))
-    → Ran (told_transcript words script old new.found) (status_of closed) (record { taken = t0; faults = f0 }) (record { taken = t2; faults = f2 }) old new
-ran words script e closed t0 t1 t2 f0 f1 f2 old new empty runs closes_as sink wrote kept =
+    → Ran (told_transcript tells words script old new.found) (status_of closed) (record { taken = t0; faults = f0 }) (record { taken = t2; faults = f2 }) old new
+ran tells words script e closed t0 t1 t2 f0 f1 f2 old new empty runs closes_as sink wrote kept =
     let found : new.found ≡ failures runs.made = runs.takes.found ∙ ap (λ es. es ++ failures runs.made) empty in
     let agrees : Agrees new.found runs.made = subst (λ (es : List FoundEntry). Agrees es runs.made) (sym found) (agrees_failures runs.made runs.takes.order) in
-    ran_told (told_transcript words script old new.found) e closed t0 t1 t2 f0 f1 f2 old new runs.made runs.takes found
-    (told_run (told_world no_keys old (script_of 1 script)) (transcript words new.found) (λ run. EndsSo e run runs.made t0 t1) (runs.said new.found agrees)) closes_as sink wrote kept
+    ran_told (told_transcript tells words script old new.found) e closed t0 t1 t2 f0 f1 f2 old new runs.made runs.takes found
+    (told_run (told_world (no_host tells default_limit) old (script_of 1 script)) (transcript words new.found) (λ run. EndsSo e run runs.made t0 t1) (runs.said new.found agrees)) closes_as sink wrote kept
 
 -- ---- what a status says of the ending
 

@@ -51,7 +51,7 @@ use Rattle.dataset_tree.specs.declared.refusal.Stop.TheVariants as stops
 use Rattle.edge_io.specs.Faults.{Rose}
 use Rattle.shell_run.specs.declared.command.Shown.{Shown}
 use Rattle.shell_run.specs.Answers.{HasWanted, IsOfLine, Replies, settled}
-use Rattle.shell_run.specs.Hosts.{host_step, reaped_behind}
+use Rattle.shell_run.specs.Hosts.{HostState, host_step, reaped_behind}
 
 -- a refusal for a taking that failed, by its number
 pub record IsTaking (why : Refusal) : Type 0 where
@@ -378,11 +378,11 @@ step_reply (commands.Clone from name) step = refl
 step_reply (commands.Receive name props wrapped block) step = refl
 step_reply (commands.Destroy name snaps) step = refl
 
-pub executed_fault : (why : Refusal) → IsTaking why → (p : Plain) (command : KeyCmd) → IsOfLine command → (needs : Needs) (kit : LineKit) (result : Result Shown Stop) → needed p command ≡ Ok needs → HasWanted needs kit
-    → Replies result (host_step p command kit).reply → settled result ≡ Ok (Err why) → Failed why kit
-executed_fault why taking p command of_line needs kit result known has replies refused =
-    step_fault why taking p command kit of_line (suffices_by p command needs kit known has)
-    (sym (step_reply command (stepped p command kit)) ∙ replies_refused result (host_step p command kit).reply why refused replies)
+pub executed_fault : (why : Refusal) → IsTaking why → (h : HostState) (command : KeyCmd) → IsOfLine command → (needs : Needs) (kit : LineKit) (result : Result Shown Stop) → needed h.keys command ≡ Ok needs → HasWanted needs kit
+    → Replies result (host_step h command kit).reply → settled result ≡ Ok (Err why) → Failed why kit
+executed_fault why taking h command of_line needs kit result known has replies refused =
+    step_fault why taking h.keys command kit of_line (suffices_by h.keys command needs kit known has)
+    (sym (step_reply command (stepped h.keys command kit)) ∙ replies_refused result (host_step h command kit).reply why refused replies)
 
 needed_apart : (why : Refusal) (p : Plain) (command : KeyCmd) (refusal : Option Refusal) → needed_unless p command refusal ≡ Err why → refusal ≡ Some why
 needed_apart why p command None known = absurd (cc)

@@ -4,6 +4,8 @@ pub mod TakingLemmas
 pub mod KitLemmas
 pub mod CommandLemmas
 pub mod ChangeLemmas
+pub mod PairedLemmas
+pub mod HostLemmas
 pub mod FaultLemmas
 pub mod TaskLemmas
 pub mod PerformLemmas

@@ -20,6 +20,7 @@ use Rattle.shell_run.specs.declared.found.FoundEntry.{FoundEntry}
 use Rattle.shell_run.specs.declared.found.FoundKind.TheVariants.{OldKey, NewKey}
 use Rattle.shell_run.specs.declared.task.Report.{Report}
 use Rattle.shell_run.specs.Answers.{Acts, ActsAs, AreOfLine, HaltFaults, HaltsAt, HaltsIn, HasAnswer, IsSeedless, PerformsOne, Reads, WhereTold, answer_takings, outcome_takings, spot_of, supply_takings}
+use Rattle.shell_run.specs.Hosts.{HostState}
 use Rattle.shell_run.specs.Outer.{Outer, Takes}
 use Rattle.shell_run.specs.Ran.{IsFront}
 use Rattle.shell_run.specs.Reports.{is_refusal, reported, closing}
@@ -27,7 +28,7 @@ use Rattle.shell_run.specs.Script.{ToldScript, Given, Gives, Stops}
 use Rattle.shell_run.specs.Takings.{Taking, has_entry, is_fill, fills_of}
 use Rattle.shell_run.specs.Tasks.{Asked, asked_of}
 use Rattle.shell_run.specs.Transcript.{World, world_of, told_world, Spot, taking_at, seed_at, fetch_at, fill_at, material_at, Supply, Has, Lacks, with_new, with_old, kit_of, Commanded, Outcome, Does, Halts, supplied, unless_refused, commanded, Answer, Performed, begun, with_done, unless_halted, performed, answer_of}
-use Rattle.shell_run.proofs.CommandLemmas.{front_all, front_nil, keys_told, nothing_acts, told_each, told_of}
+use Rattle.shell_run.proofs.CommandLemmas.{front_all, front_nil, host_told, nothing_acts, told_each, told_of}
 use Rattle.shell_run.proofs.KitLemmas.{told_at}
 use Rattle.shell_run.proofs.TakingLemmas.{all_both, all_first, all_second, all_weaker, order_both, outcomes_both, takes_both}
 
@@ -141,7 +142,7 @@ abbrev pub PerformsNext : (n part : ℕ) (report : Report) (command : KeyCmd) (a
 PerformsNext n part report command a b first now result before after =
     ActsAs n part a b (λ made. WhereTold first made (λ entries w. PerformsOne result n report command (commanded (spot_of n part entries) w command) now before after made))
 
-pub performed_none : (n : ℕ) (report : Report) (p : Plain) (a : Outer) (sa : ToldScript) (all : List KeyCmd) (before : List ℕ)
+pub performed_none : (n : ℕ) (report : Report) (p : HostState) (a : Outer) (sa : ToldScript) (all : List KeyCmd) (before : List ℕ)
     → PerformsTo n report a a (told_world p a sa) (told_world p a sa) all all 0 0 before before
 performed_none n report p a sa all before =
     nothing_acts n a (λ made. AllByRecursion (λ taking. taking.entry.part < 0) made × WhereTold (told_world p a sa) made (λ entries w. Underway n entries report w (told_world p a sa) all all 0 0 before before made)) (
@@ -257,15 +258,15 @@ performed_halt n report a b d first middle now all command rest count good befor
 
 -- ---- behind the last command
 
-end_by : (n : ℕ) (entries : List FoundEntry) (report : Report) (w : World) (q : Plain) (outer : Outer) (script : ToldScript) (all : List KeyCmd) (count good : ℕ) (before mid after : List ℕ) (made : List Taking) (result : Result (Unit {0}) Halt)
-    → Underway n entries report w (told_world q outer script) all [] count good before mid made → OnOk result (after ≡ mid ++ closing n q report good count) → OnErr result (result ≡ Err NoMemory)
+end_by : (n : ℕ) (entries : List FoundEntry) (report : Report) (w : World) (q : HostState) (outer : Outer) (script : ToldScript) (all : List KeyCmd) (count good : ℕ) (before mid after : List ℕ) (made : List Taking) (result : Result (Unit {0}) Halt)
+    → Underway n entries report w (told_world q outer script) all [] count good before mid made → OnOk result (after ≡ mid ++ closing n q.keys report good count) → OnErr result (result ≡ Err NoMemory)
     → HasAnswer result (performed n entries report (begun w) all) (told_world q outer script) before after made
 end_by n entries report w q outer script all count good before mid after made (Ok ok) under printed ended =
     let last : Performed = under.done in
-    let keys : last.turn.world.present.keys ≡ q = keys_told q outer script last.turn.world under.world in
+    let present : last.turn.world.present ≡ q = host_told q outer script last.turn.world under.world in
     let text : List ℕ = closing n last.turn.world.present.keys report last.well last.tried in
-    let same : closing n q report good count ≡ text =
-    ap (λ p. closing n p report good count) (sym keys) ∙ ap (λ k. closing n last.turn.world.present.keys report k count) (sym under.well) ∙ ap (λ k. closing n last.turn.world.present.keys report last.well k) (sym under.tried) in
+    let same : closing n q.keys report good count ≡ text =
+    ap (λ p. closing n p.keys report good count) (sym present) ∙ ap (λ k. closing n last.turn.world.present.keys report k count) (sym under.well) ∙ ap (λ k. closing n last.turn.world.present.keys report last.well k) (sym under.tried) in
     subst (λ (answer : Answer). HasAnswer (Ok ok) answer (told_world q outer script) before after made) (sym under.goes_on)
     (under.world, printed ∙ ap (λ out. mid ++ out) same ∙ ap (λ out. out ++ text) under.output ∙ append_assoc before last.turn.output text, sym under.takings)
 end_by n entries report w q outer script all count good before mid after made (Err halt) under printed ended =
@@ -273,8 +274,8 @@ end_by n entries report w q outer script all count good before mid after made (E
     subst (λ (h : Halt). HaltsIn h (performed n entries report (begun w) all) made) (sym memory)
     (subst (λ (answer : Answer). IsFront made (answer_takings answer)) (sym under.goes_on) (front_all made under.done.turn.takings (sym under.takings)))
 
-pub performed_end : (n : ℕ) (report : Report) (q : Plain) (a b : Outer) (script : ToldScript) (first : Option World) (all : List KeyCmd) (count good : ℕ) (before mid after : List ℕ) (result : Result (Unit {0}) Halt)
-    → PerformsTo n report a b first (told_world q b script) all [] count good before mid → OnOk result (after ≡ mid ++ closing n q report good count) → OnErr result (result ≡ Err NoMemory)
+pub performed_end : (n : ℕ) (report : Report) (q : HostState) (a b : Outer) (script : ToldScript) (first : Option World) (all : List KeyCmd) (count good : ℕ) (before mid after : List ℕ) (result : Result (Unit {0}) Halt)
+    → PerformsTo n report a b first (told_world q b script) all [] count good before mid → OnOk result (after ≡ mid ++ closing n q.keys report good count) → OnErr result (result ≡ Err NoMemory)
     → Acts n a b (λ made. WhereTold first made (λ entries w. HasAnswer result (performed n entries report (begun w) all) (told_world q b script) before after made))
 performed_end n report q a b script first all count good before mid after result p printed ended = record {
   made = p.made;
@@ -286,7 +287,7 @@ performed_end n report q a b script first all count good before mid after result
 
 -- ---- a line
 
-pub carried : (n : ℕ) (p new : Plain) (a d : Outer) (sa sd : ToldScript) (line : Line) (report : Report) (all : List KeyCmd) (result : Result (Unit {0}) Halt) (before after : List ℕ) → all ≡ (asked_of p line).commands → report ≡ (asked_of p line).report
+pub carried : (n : ℕ) (p new : HostState) (a d : Outer) (sa sd : ToldScript) (line : Line) (report : Report) (all : List KeyCmd) (result : Result (Unit {0}) Halt) (before after : List ℕ) → all ≡ (asked_of p.keys line).commands → report ≡ (asked_of p.keys line).report
     → Acts n a d (λ made. WhereTold (told_world p a sa) made (λ entries w. HasAnswer result (performed n entries report (begun w) all) (told_world new d sd) before after made))
     → Acts n a d (λ made. WhereTold (told_world p a sa) made (λ entries w. HasAnswer result (answer_of n entries w line) (told_world new d sd) before after made))
 carried n p new a d sa sd line report all result before after commands reports acts = record {
@@ -295,15 +296,15 @@ carried n p new a d sa sd line report all result before after commands reports a
   said = λ entries agrees.
       on_told_with (told_world p a sa) (λ w. HasAnswer result (performed n entries report (begun w) all) (told_world new d sd) before after acts.made) (λ w. HasAnswer result (answer_of n entries w line) (told_world new d sd) before after acts.made)
       (λ w told answered.
-      let asked_is : asked_of p line ≡ asked_of w.present.keys line = ap (λ q. asked_of q line) (sym (keys_told p a sa w told)) in
+      let asked_is : asked_of p.keys line ≡ asked_of w.present.keys line = ap (λ q. asked_of q.keys line) (sym (host_told p a sa w told)) in
       let same : performed n entries report (begun w) all ≡ answer_of n entries w line =
-      ap (λ r. performed n entries r (begun w) all) reports ∙ ap (λ cs. performed n entries (asked_of p line).report (begun w) cs) commands
+      ap (λ r. performed n entries r (begun w) all) reports ∙ ap (λ cs. performed n entries (asked_of p.keys line).report (begun w) cs) commands
       ∙ ap (λ (asked : Asked). performed n entries asked.report (begun w) asked.commands) asked_is in
       subst (λ (answer : Answer). HasAnswer result answer (told_world new d sd) before after acts.made) same answered) (acts.said entries agrees);
 }
 
 -- no memory was found to see what the line asks for
-pub carried_not : (n : ℕ) (p : Plain) (outer : Outer) (script : ToldScript) (line : Line) (before after : List ℕ)
+pub carried_not : (n : ℕ) (p : HostState) (outer : Outer) (script : ToldScript) (line : Line) (before after : List ℕ)
     → Acts n outer outer (λ made. WhereTold (told_world p outer script) made (λ entries w. HasAnswer (let ended : Result (Unit {0}) Halt = Err NoMemory in ended) (answer_of n entries w line) (told_world p outer script) before after made))
 carried_not n p outer script line before after =
     nothing_acts n outer (λ made. WhereTold (told_world p outer script) made (λ entries w. HasAnswer (let ended : Result (Unit {0}) Halt = Err NoMemory in ended) (answer_of n entries w line) (told_world p outer script) before after made))
@@ -342,19 +343,19 @@ performed_halt_at n report a b d first middle now all i command count good befor
     (subst (λ (rest : List KeyCmd). PerformsTo n report a b first middle all rest count good before mid) (next_of all i command within is) p) q
     (several count (length all) (omega (arith, within, place)))
 
-pub performed_all : (n : ℕ) (report : Report) (q : Plain) (a b : Outer) (script : ToldScript) (first : Option World) (all : List KeyCmd) (i count good : ℕ) (before mid after : List ℕ) (result : Result (Unit {0}) Halt) → length all ≤ i
-    → PerformsTo n report a b first (told_world q b script) all (drop i all) count good before mid → OnOk result (after ≡ mid ++ closing n q report good count) → OnErr result (result ≡ Err NoMemory)
+pub performed_all : (n : ℕ) (report : Report) (q : HostState) (a b : Outer) (script : ToldScript) (first : Option World) (all : List KeyCmd) (i count good : ℕ) (before mid after : List ℕ) (result : Result (Unit {0}) Halt) → length all ≤ i
+    → PerformsTo n report a b first (told_world q b script) all (drop i all) count good before mid → OnOk result (after ≡ mid ++ closing n q.keys report good count) → OnErr result (result ≡ Err NoMemory)
     → Acts n a b (λ made. WhereTold first made (λ entries w. HasAnswer result (performed n entries report (begun w) all) (told_world q b script) before after made))
 performed_all n report q a b script first all i count good before mid after result past p printed ended =
     performed_end n report q a b script first all count good before mid after result
     (subst (λ (rest : List KeyCmd). PerformsTo n report a b first (told_world q b script) all rest count good before mid) (drop_all i all past) p) printed ended
 
 -- the text behind all commands leaves the state as it is
-pub performed_closed : (n : ℕ) (report : Report) (q now : Plain) (a b : Outer) (script : ToldScript) (first : Option World) (all : List KeyCmd) (i count good : ℕ) (before mid after : List ℕ) (result : Result (Unit {0}) Halt) → length all ≤ i → now ≡ q
-    → PerformsTo n report a b first (told_world q b script) all (drop i all) count good before mid → OnOk result (after ≡ mid ++ closing n q report good count) → OnErr result (result ≡ Err NoMemory)
+pub performed_closed : (n : ℕ) (report : Report) (q now : HostState) (a b : Outer) (script : ToldScript) (first : Option World) (all : List KeyCmd) (i count good : ℕ) (before mid after : List ℕ) (result : Result (Unit {0}) Halt) → length all ≤ i → now ≡ q
+    → PerformsTo n report a b first (told_world q b script) all (drop i all) count good before mid → OnOk result (after ≡ mid ++ closing n q.keys report good count) → OnErr result (result ≡ Err NoMemory)
     → Acts n a b (λ made. WhereTold first made (λ entries w. HasAnswer result (performed n entries report (begun w) all) (told_world now b script) before after made))
 performed_closed n report q now a b script first all i count good before mid after result past same p printed ended =
-    subst (λ (s : Plain). Acts n a b (λ made. WhereTold first made (λ entries w. HasAnswer result (performed n entries report (begun w) all) (told_world s b script) before after made))) (sym same)
+    subst (λ (s : HostState). Acts n a b (λ made. WhereTold first made (λ entries w. HasAnswer result (performed n entries report (begun w) all) (told_world s b script) before after made))) (sym same)
     (performed_all n report q a b script first all i count good before mid after result past p printed ended)
 
 -- ---- the script over several calls

@@ -4,7 +4,6 @@ use Rattle.std.specs.Io.KnownBytes.{Appends}
 use Rattle.std.specs.List.{flat_map}
 use Rattle.std.specs.Option.{option_map}
 use Rattle.std.proofs.lemmas.List.{append-nil}
-use Rattle.key_machine.specs.Plain.{Plain, no_keys}
 use Rattle.edge_io.specs.Faults.{HasCause}
 use Rattle.edge_io.specs.Lines.{prompt_of}
 use Rattle.edge_io.specs.Told.{unread}
@@ -26,15 +25,17 @@ use Rattle.shell_run.specs.declared.found.FoundEntry.{FoundEntry}
 use Rattle.shell_run.specs.declared.found.FoundKind.TheVariants.{OldKey, NewKey}
 use Rattle.shell_run.specs.Answers.{Acts, HaltsIn, HasAnswer, WhereTold, answer_takings, spot_of}
 use Rattle.shell_run.specs.Endings.{ending_of, status_of}
+use Rattle.shell_run.specs.Hosts.{HostState, no_host}
 use Rattle.shell_run.specs.Outer.{Outer}
-use Rattle.shell_run.specs.Progress.{Goes as GoesOn, Taken, Ends as EndsSo, TookCut, GoesPast, NoLine, IsNextLine, NoneTaken, HasReplied, HasCut, Replied, LineRan, RunsFrom, StartsNot}
+use Rattle.shell_run.specs.Progress.{Goes as GoesOn, Taken, Ends as EndsSo, TookCut, GoesPast, NoLine, IsNextLine, NoneTaken, HasReplied, HasCut, Replied, LineRan, RunsFrom}
 use Rattle.shell_run.specs.Ran.{IsAnswered, IsFront, IsCut, Came, WroteLast}
 use Rattle.shell_run.specs.Script.{Script, ToldScript, Given, Gives, Stops, prompted, prompted_by, prompted_before, past_line, script_of, script_told}
 use Rattle.shell_run.specs.Takings.{Taking, has_entry, entries_of, fills_of}
 use Rattle.shell_run.specs.Texts.{bad_line}
 use Rattle.shell_run.specs.declared.task.Report.{Report}
 use Rattle.shell_run.specs.Tasks.{Asked, asked_of}
-use Rattle.shell_run.specs.Transcript.{World, world_of, told_world, Spot, taking_at, at_prompt, material_at, Supply, Has, Lacks, with_new, with_old, kit_of, Commanded, Outcome, Does, Halts, supplied, unless_refused, commanded, Run, Turn, Answer, Goes, Ends, Performed, begun, with_done, unless_halted, performed, preceded, replies_of, made_in, goes_on, checked, answer_of, answer_if, run_over, run_before, run_within, run_from, transcript}
+use Rattle.shell_run.specs.Transcript.{World, world_of, told_world, Spot, taking_at, at_prompt, material_at, Supply, Has, Lacks, with_new, with_old, kit_of, Commanded, Outcome, Does, Halts, supplied, unless_refused, commanded, Run, Turn, Answer, Goes, Ends, Performed, begun, with_done, unless_halted, performed, preceded, replies_of, made_in, goes_on, checked, answer_of, answer_if, run_over, run_before, run_within, run_from, run_under, transcript}
+use Rattle.shell_run.specs.Words.{default_limit, limit_of}
 use Rattle.shell_run.proofs.CommandLemmas.{acts_told, front_nil, told_each, told_of}
 use Rattle.shell_run.proofs.KitLemmas.{told_at}
 use Rattle.shell_run.proofs.ScriptLemmas.{limit_bad, limit_within}
@@ -443,7 +444,7 @@ taken_of line ahead next after taken same = by_after after.ahead taken where
   by_after (Some later) taken = (later, taken, ap (λ k. Some (with_lines k later)) same)
 
 -- the run from a line on, by the line's answer
-run_is : (found : List FoundEntry) (p : Plain) (files : List (List ℕ × List ℕ)) (left : List ℕ) (n : ℕ) (line : List ℕ) (later : List (List ℕ)) (outcome : Result Line ℕ) → checked n line ≡ outcome
+run_is : (found : List FoundEntry) (p : HostState) (files : List (List ℕ × List ℕ)) (left : List ℕ) (n : ℕ) (line : List ℕ) (later : List (List ℕ)) (outcome : Result Line ℕ) → checked n line ≡ outcome
     → run_from found (world_of p files left (with_lines n (line ∷ later)))
     ≡ goes_on (answer_if n (entries_of n found) (world_of p files left (with_lines (n + 1) later)) outcome) (λ turn. run_within (length later) found turn.world)
 run_is found p files left n line later outcome is =
@@ -461,7 +462,7 @@ line_ran_as (Some e) found w answer k new t0 t1 made within is replied =
 abbrev pub Here : ℕ → ℕ → Type 0
 Here n line = (line ≡ n) × (line ≤ 1048576)
 
-pub line_ran : (p : Plain) (a b : Outer) (before after : ToldScript) (line : List ℕ) (r : Option Ending) (new : Option World) (t0 t1 : Option (List ℕ)) → IsNextLine line before after
+pub line_ran : (p : HostState) (a b : Outer) (before after : ToldScript) (line : List ℕ) (r : Option Ending) (new : Option World) (t0 t1 : Option (List ℕ)) → IsNextLine line before after
     → Acts before.next a b (λ made. WhereTold (told_world p a after) made (λ entries w. Replied r (answer_if before.next entries w (line_of line 0)) new t0 t1 made))
     → RunsFrom (Here before.next) a b (λ found made. IfSome (told_world p a before) (λ w. LineRan r found w new t0 t1 made))
 line_ran p a b before after line r new t0 t1 is acts = record {
@@ -487,7 +488,7 @@ line_ran p a b before after line r new t0 t1 is acts = record {
 run_over_ends : (t : Option (List ℕ)) → EndsSo Done run_over [] t t
 run_over_ends t = record { replies = []; taken = Appends-nil t; came = came_all run_over 0 (omega arith) refl; last = λ answered. refl }
 
-no_line_ends : (e : Ending) (p : Plain) (files : List (List ℕ × List ℕ)) (left : List ℕ) (n : ℕ) (ahead : List (List ℕ)) (after : ToldScript) (found : List FoundEntry) (t : Option (List ℕ)) → NoLine e n ahead after.ahead
+no_line_ends : (e : Ending) (p : HostState) (files : List (List ℕ × List ℕ)) (left : List ℕ) (n : ℕ) (ahead : List (List ℕ)) (after : ToldScript) (found : List FoundEntry) (t : Option (List ℕ)) → NoLine e n ahead after.ahead
     → EndsSo e (run_from found (world_of p files left (with_lines n ahead))) [] t t
 no_line_ends Done p files left n ahead after found t none =
     subst (λ (ls : List (List ℕ)). EndsSo Done (run_from found (world_of p files left (with_lines n ls))) [] t t) (sym none.0) (run_over_ends t)
@@ -511,7 +512,7 @@ none_taken (BadLine number at) before after ahead told none = told_at before.ahe
 none_taken ReadFault before after ahead told none = tt
 none_taken NoMemory before after ahead told none = tt
 
-pub line_not_taken : (e : Ending) (p : Plain) (a : Outer) (before after : ToldScript) (new : Option World) (t : Option (List ℕ)) → NoneTaken e before after
+pub line_not_taken : (e : Ending) (p : HostState) (a : Outer) (before after : ToldScript) (new : Option World) (t : Option (List ℕ)) → NoneTaken e before after
     → RunsFrom (Here before.next) a a (λ found made. IfSome (told_world p a before) (λ w. LineRan (Some e) found w new t t made))
 line_not_taken e p a before after new t none = record {
   made = [];
@@ -580,41 +581,52 @@ unread_nil : (left : Option (List ℕ)) → unread [] left ≡ left
 unread_nil None = refl
 unread_nil (Some bytes) = refl
 
--- a run from the reader's first byte on, over a host that holds nothing
-pub script_runs : (e : Ending) (keys : Plain) (reader : List ℕ) (left : Option (List ℕ)) (t0 t1 : Option (List ℕ)) (a b : Outer) → reader ≡ [] → keys ≡ no_keys
-    → RunsFrom (λ line. line ≤ 1048576) a b (λ found made. IfSome (told_world keys a (script_of 1 (unread reader left))) (λ w. EndsSo e (run_from found w) made t0 t1))
-    → RunsFrom (λ line. line ≤ 1048576) a b (λ found made. IfSome (told_world no_keys a (script_of 1 left)) (λ w. EndsSo e (run_from found w) made t0 t1))
-script_runs e keys reader left t0 t1 a b empty none p =
-    let from : Plain → Option (List ℕ) → Type 0 = λ k told. RunsFrom (λ line. line ≤ 1048576) a b (λ found made. IfSome (told_world k a (script_of 1 told)) (λ w. EndsSo e (run_from found w) made t0 t1)) in
-    subst (from no_keys) (ap (λ (r : List ℕ). unread r left) empty ∙ unread_nil left) (subst (λ (k : Plain). from k (unread reader left)) none p)
+-- a run from the reader's first byte on
+pub script_runs : (e : Ending) (host : HostState) (reader : List ℕ) (left : Option (List ℕ)) (t0 t1 : Option (List ℕ)) (a b : Outer) → reader ≡ []
+    → RunsFrom (λ line. line ≤ 1048576) a b (λ found made. IfSome (told_world host a (script_of 1 (unread reader left))) (λ w. EndsSo e (run_from found w) made t0 t1))
+    → RunsFrom (λ line. line ≤ 1048576) a b (λ found made. IfSome (told_world host a (script_of 1 left)) (λ w. EndsSo e (run_from found w) made t0 t1))
+script_runs e host reader left t0 t1 a b empty p =
+    subst (λ (told : Option (List ℕ)). RunsFrom (λ line. line ≤ 1048576) a b (λ found made. IfSome (told_world host a (script_of 1 told)) (λ w. EndsSo e (run_from found w) made t0 t1)))
+    (ap (λ (r : List ℕ). unread r left) empty ∙ unread_nil left) p
 
-pub words_run : {W : Type 0} (words : List W) (e : Ending) (world : Option World) (t0 t1 : Option (List ℕ)) (a b : Outer) → words ≡ []
-    → RunsFrom (λ line. line ≤ 1048576) a b (λ found made. IfSome world (λ w. EndsSo e (run_from found w) made t0 t1))
-    → RunsFrom (λ line. line ≤ 1048576) a b (λ found made. IfSome world (λ w. EndsSo e (transcript words found w) made t0 t1))
-words_run [] e world t0 t1 a b none p = p
-words_run (word ∷ words) e world t0 t1 a b none p = absurd (cc)
+-- words that are in the form say the limit of the host
+pub words_run : (words : List (List ℕ)) (limit : ℕ) (tells : Bool) (e : Ending) (script : ToldScript) (t0 t1 : Option (List ℕ)) (a b : Outer) → limit_of words ≡ Some limit
+    → RunsFrom (λ line. line ≤ 1048576) a b (λ found made. IfSome (told_world (no_host tells limit) a script) (λ w. EndsSo e (run_from found w) made t0 t1))
+    → RunsFrom (λ line. line ≤ 1048576) a b (λ found made. IfSome (told_world (no_host tells default_limit) a script) (λ w. EndsSo e (transcript words found w) made t0 t1))
+words_run words limit tells e script t0 t1 a b says run = record {
+  made = run.made;
+  takes = run.takes;
+  said = λ found agrees. told_each (no_host tells default_limit) a script (λ w. EndsSo e (transcript words found w) run.made t0 t1) (λ files left here f en s.
+      subst (λ (o : Option ℕ). EndsSo e (run_under o found (world_of (no_host tells default_limit) files left here)) run.made t0 t1) (sym says)
+      (told_at (told_world (no_host tells limit) a script) (world_of (no_host tells limit) files left here) (λ w. EndsSo e (run_from found w) run.made t0 t1)
+      (told_of (no_host tells limit) a script files left here f en s) (run.said found agrees)));
+}
 
 -- a run that doesn't begin
-not_begun : {W : Type 0} (e : Ending) (words : List W) (found : List FoundEntry) (w : World) (t : Option (List ℕ)) → StartsNot e words → EndsSo e (transcript words found w) [] t t
-not_begun Usage [] found w t starts = absurd (starts refl)
-not_begun Usage (word ∷ words) found w t starts = record {
-  replies = [];
-  taken = Appends-nil t;
-  came = came_all (transcript (word ∷ words) found w) 2 (omega arith) refl;
-  last = λ answered. refl;
-}
-not_begun NoMemory words found w t starts = no_memory_ends (transcript words found w) t
-not_begun Done words found w t starts = absurd starts
-not_begun (BadLine number at) words found w t starts = absurd starts
-not_begun ReadFault words found w t starts = absurd starts
-not_begun WriteFault words found w t starts = absurd starts
-
-pub words_not_run : {W : Type 0} (e : Ending) (words : List W) (world : Option World) (t : Option (List ℕ)) (outer : Outer) → StartsNot e words
-    → RunsFrom (λ line. line ≤ 1048576) outer outer (λ found made. IfSome world (λ w. EndsSo e (transcript words found w) made t t))
-words_not_run e words world t outer starts = record { made = []; takes = takes_none (λ line. line ≤ 1048576) outer; said = λ found agrees. each found world } where
-  each : (found : List FoundEntry) (world : Option World) → IfSome world (λ w. EndsSo e (transcript words found w) [] t t)
+ends_at_once : (e : Ending) (world : Option World) (run : List FoundEntry → World → Run) (t : Option (List ℕ)) (outer : Outer) → ((found : List FoundEntry) (w : World) → EndsSo e (run found w) [] t t)
+    → RunsFrom (λ line. line ≤ 1048576) outer outer (λ found made. IfSome world (λ w. EndsSo e (run found w) made t t))
+ends_at_once e world run t outer ends = record { made = []; takes = takes_none (λ line. line ≤ 1048576) outer; said = λ found agrees. each found world } where
+  each : (found : List FoundEntry) (world : Option World) → IfSome world (λ w. EndsSo e (run found w) [] t t)
   each found None = tt
-  each found (Some w) = not_begun e words found w t starts
+  each found (Some w) = ends found w
+
+-- words that aren't in the form
+pub words_faulty : (words : List (List ℕ)) (world : Option World) (t : Option (List ℕ)) (outer : Outer) → limit_of words ≡ None
+    → RunsFrom (λ line. line ≤ 1048576) outer outer (λ found made. IfSome world (λ w. EndsSo Usage (transcript words found w) made t t))
+words_faulty words world t outer faulty = ends_at_once Usage world (transcript words) t outer (λ found w.
+    subst (λ (o : Option ℕ). EndsSo Usage (run_under o found w) [] t t) (sym faulty) (record { replies = []; taken = Appends-nil t; came = came_all (run_under None found w) 2 (omega arith) refl; last = λ answered. refl }))
+
+-- no memory was found to begin
+pub not_made : (e : Ending) (world : Option World) (t : Option (List ℕ)) (outer : Outer) → e ≡ NoMemory → RunsFrom (λ line. line ≤ 1048576) outer outer (λ found made. IfSome world (λ w. EndsSo e (run_from found w) made t t))
+not_made e world t outer none =
+    subst (λ (x : Ending). RunsFrom (λ line. line ≤ 1048576) outer outer (λ found made. IfSome world (λ w. EndsSo x (run_from found w) made t t))) (sym none)
+    (ends_at_once NoMemory world run_from t outer (λ found w. no_memory_ends (run_from found w) t))
+
+-- a run over a host that was made
+pub made_runs : (host start : HostState) (script : ToldScript) (e : Ending) (t0 t1 : Option (List ℕ)) (a b : Outer) → host ≡ start
+    → RunsFrom (λ line. line ≤ 1048576) a b (λ found made. IfSome (told_world host a script) (λ w. EndsSo e (run_from found w) made t0 t1))
+    → RunsFrom (λ line. line ≤ 1048576) a b (λ found made. IfSome (told_world start a script) (λ w. EndsSo e (run_from found w) made t0 t1))
+made_runs host start script e t0 t1 a b is run = subst (λ (h : HostState). RunsFrom (λ line. line ≤ 1048576) a b (λ found made. IfSome (told_world h a script) (λ w. EndsSo e (run_from found w) made t0 t1))) is run
 
 -- where the script is told it was read to its end
 pub end_told : (e : Ending) (first before after : ToldScript) → (is_some first.ahead ≡ true → is_some before.ahead ≡ true) → GoesPast (Some e) before after → e ≡ Done → IfSome first.ahead (λ ahead. after.ahead ≡ Some [])

@@ -1,5 +1,5 @@
 -- How far a run has come.
-use Rattle.std.specs.Prelude.{◌≡◌, ◌≢◌, ℕ, ◌+◌, ◌<◌, ◌≤◌, true, List, [], ◌∷◌, length, is_some, IfSome, IsSomeAnd}
+use Rattle.std.specs.Prelude.{◌≡◌, ℕ, ◌+◌, ◌<◌, ◌≤◌, true, List, [], ◌∷◌, length, is_some, IfSome, IsSomeAnd}
 use Rattle.std.specs.declared.option.Option.{Option}
 use Rattle.std.specs.declared.option.Option.TheVariants.{Some, None}
 use Rattle.std.specs.Io.KnownBytes.{Appends}
@@ -115,9 +115,3 @@ pub record RunsFrom (here : ℕ → Type 0) (old new : Outer) (Said : List Found
   pub made : List Taking
   pub takes : Takes here made old new
   pub said : (found : List FoundEntry) → Agrees found made → Said found made
-
--- why a run doesn't begin
-abbrev pub StartsNot : {W : Type 0} → Ending → List W → Type 0
-StartsNot Usage words = words ≢ []
-StartsNot NoMemory words = words ≡ []
-StartsNot ending words = ⊥

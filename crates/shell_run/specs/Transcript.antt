@@ -15,7 +15,6 @@ use Rattle.encryption_roots.specs.declared.kit.SeedGot.{SeedGot}
 use Rattle.encryption_roots.specs.declared.kit.SeedGot.TheVariants as seeds
 use Rattle.encryption_roots.specs.declared.kit.LineKit.{LineKit}
 use Rattle.encryption_roots.specs.declared.command.KeyCmd.{KeyCmd}
-use Rattle.key_machine.specs.Plain.{Plain, no_keys}
 use Rattle.key_machine.specs.Reply.{Reply, Refused}
 use Rattle.key_machine.specs.Step.{refusal_of, wanted}
 use Rattle.key_machine.specs.Told.{Wanted}
@@ -25,36 +24,33 @@ use Rattle.shell_run.specs.declared.found.FoundEntry.{FoundEntry}
 use Rattle.shell_run.specs.declared.task.Report.{Report}
 use Rattle.shell_run.specs.declared.found.FoundKind.{FoundKind}
 use Rattle.shell_run.specs.declared.found.FoundKind.TheVariants.{OldKey, NewKey, Seed}
-use Rattle.shell_run.specs.Hosts.{host_step}
+use Rattle.shell_run.specs.Hosts.{HostState, host_step, no_host}
 use Rattle.shell_run.specs.Outer.{Outer, left_after}
 use Rattle.shell_run.specs.Script.{Script, ToldScript, Given, Gives, Stops, past_line, prompted, script_of, script_told, within_limits}
 use Rattle.shell_run.specs.Takings.{Taking, entries_of, has_entry, fills_of}
 use Rattle.shell_run.specs.Tasks.{Asked, asked_of}
 use Rattle.shell_run.specs.Reports.{is_refusal, reported, closing}
 use Rattle.shell_run.specs.Texts.{bad_line, usage_line}
+use Rattle.shell_run.specs.Words.{default_limit, limit_of}
 
 -- ---- the world
 
--- a host: its keystore
-pub record Host : Type 0 where
-  pub keys : Plain
-
 -- what a script works on: the present host, the key files, the entropy that is left, and what is left of the script
 pub record World : Type 0 where
-  pub present : Host
+  pub present : HostState
   pub files : List (List ℕ × List ℕ)
   pub entropy : List ℕ
   pub script : Script
 
-abbrev pub world_of : Plain → List (List ℕ × List ℕ) → List ℕ → Script → World
-world_of keys files entropy script =
-    record { present = record { keys = keys }; files = files; entropy = entropy; script = script }
+abbrev pub world_of : HostState → List (List ℕ × List ℕ) → List ℕ → Script → World
+world_of present files entropy script =
+    record { present = present; files = files; entropy = entropy; script = script }
 
--- the world of this keystore, where key files, entropy and script are told
-abbrev pub told_world : Plain → Outer → ToldScript → Option World
-told_world keys outer script =
+-- the world of this host, where key files, entropy and script are told
+abbrev pub told_world : HostState → Outer → ToldScript → Option World
+told_world present outer script =
     option_and_then (λ (files : List (List ℕ × List ℕ)). option_and_then (λ (left : List ℕ).
-    option_map (world_of keys files left) (script_told script)) outer.entropy) outer.files
+    option_map (world_of present files left) (script_told script)) outer.entropy) outer.files
 
 -- ---- what a command takes
 
@@ -149,7 +145,7 @@ pub data Outcome : Type 0 where
 abbrev pub supplied : World → KeyCmd → Supply → Outcome
 supplied w command (Lacks number at takings) = Halts number at w takings
 supplied w command (Has kit left takings) =
-    let step = host_step w.present.keys command kit in
+    let step = host_step w.present command kit in
     Does (record {
       world = world_of step.state w.files (left_after (fills_of takings) w.entropy) left;
       reply = step.reply;
@@ -285,13 +281,22 @@ run_within (suc bound) found w = run_before found w w.script.ahead (λ turn. run
 abbrev pub run_from : List FoundEntry → World → Run
 run_from found w = run_within (length w.script.ahead) found w
 
--- The whole run under these words, from this world on, where these takings fail. No word is an option yet, so
--- every one is a faulty command line.
-abbrev pub transcript : {W : Type 0} → List W → List FoundEntry → World → Run
-transcript [] found w = run_from found w
-transcript (word ∷ words) found w = record { turns = []; status = 2; last = usage_line }
+-- the world in which a salt of a new family serves so many draws
+abbrev pub with_limit : ℕ → World → World
+with_limit limit w = record w { present = record w.present { limit = limit } }
 
--- the run of a host that holds nothing, where script, key files and entropy are told
-abbrev pub told_transcript : {W : Type 0} → List W → Option (List ℕ) → Outer → List FoundEntry → Option Run
-told_transcript words script outer found =
-    option_map (transcript words found) (told_world no_keys outer (script_of 1 script))
+-- a faulty command line gives the usage alone
+abbrev pub run_under : Option ℕ → List FoundEntry → World → Run
+run_under None found w = record { turns = []; status = 2; last = usage_line }
+run_under (Some limit) found w = run_from found (with_limit limit w)
+
+-- The whole run under these words, from this world on, where these takings fail.
+abbrev pub transcript : (words : List (List ℕ)) → List FoundEntry → World → Run
+transcript words found w = run_under (limit_of words) found w
+
+-- the run of a host that holds nothing, whose shelves tell what was put on them or not, where script, key files and
+-- entropy are told
+abbrev pub told_transcript : (tells : Bool) → (words : List (List ℕ)) → Option (List ℕ) → Outer → List FoundEntry
+    → Option Run
+told_transcript tells words script outer found =
+    option_map (transcript words found) (told_world (no_host tells default_limit) outer (script_of 1 script))

@@ -19,14 +19,15 @@ use crate::task::{MAX_PARTS, Report, Task, task_of};
 use dataset_tree::{NoMemory, Refusal, SetName};
 use encryption_roots::KeyCmd;
 use key_store::KeyState;
+use shelf_store::Shelf;
 use shell_lines::{Line, LineStop, parse_line};
 use std::alloc::Global;
 
 /// Carries out the line of this number, and adds what it prints. An `Err` says that the run is over: the
 /// bytes spell no line, or the line isn't carried out to its end.
-pub(crate) fn answer<W: Outside>(
+pub(crate) fn answer<B: Shelf, W: Outside>(
     alloc: Global,
-    host: &mut Host,
+    host: &mut Host<B>,
     outside: &mut W,
     number: u32,
     bytes: &[u8],
@@ -58,9 +59,9 @@ fn halt_of(number: u32, stop: LineStop) -> Halt
     }
 }
 
-fn carry_out<W: Outside>(
+fn carry_out<B: Shelf, W: Outside>(
     alloc: Global,
-    host: &mut Host,
+    host: &mut Host<B>,
     outside: &mut W,
     number: u32,
     line: &Line,
@@ -92,17 +93,17 @@ fn carry_out<W: Outside>(
 }
 
 /// What a line asks for.
-fn task_for(alloc: Global, host: &Host, line: &Line) -> Result<Task, NoMemory>
-    ensures asked { IfOk result (λ task. IsTask task (asked_of host.now line.now)) }
+fn task_for<B: Shelf>(alloc: Global, host: &Host<B>, line: &Line) -> Result<Task, NoMemory>
+    ensures asked { IfOk result (λ task. IsTask task (asked_of host.now.keys line.now)) }
     ensures few { IfOk result (λ task. length task.commands.items ≤ MAX_PARTS) }
 {
     task_of(alloc, host.keys(), line)
 }
 
 /// Carries out commands one after another, each as a part of its own, and adds the report of them.
-fn perform<W: Outside>(
+fn perform<B: Shelf, W: Outside>(
     alloc: Global,
-    host: &mut Host,
+    host: &mut Host<B>,
     outside: &mut W,
     number: u32,
     report: &Report,
@@ -134,9 +135,9 @@ fn perform<W: Outside>(
 
 /// Carries out a command of this part of the line, adds the report of it, and answers how many commands went
 /// well: one or none.
-fn perform_one<W: Outside>(
+fn perform_one<B: Shelf, W: Outside>(
     alloc: Global,
-    host: &mut Host,
+    host: &mut Host<B>,
     outside: &mut W,
     number: u32,
     part: u32,
@@ -161,16 +162,16 @@ fn perform_one<W: Outside>(
 }
 
 /// Adds the report of a command, and answers how many commands went well: one or none.
-fn push_report(
+fn push_report<B: Shelf>(
     output: &mut Vec<u8>,
     number: u32,
-    host: &Host,
+    host: &Host<B>,
     report: &Report,
     command: &KeyCmd,
     shown: &Result<Shown, Refusal>,
 ) -> Result<u64, Halt>
     ensures text { OnOk result (output.new.items ≡ output.old.items
-        ++ shown_report number host.now.tree.rows report.now command.now shown.now) }
+        ++ shown_report number host.now.keys.tree.rows report.now command.now shown.now) }
     ensures count { IfOk result (λ count. count ≡ well_count shown.now) }
     ensures stops { OnErr result (result ≡ Err Halt.NoMemory) }
 {
@@ -211,15 +212,16 @@ fn name_in(command: &KeyCmd) -> &SetName
 }
 
 /// Adds what a line reports behind its commands.
-fn push_closing(
+fn push_closing<B: Shelf>(
     output: &mut Vec<u8>,
     number: u32,
-    host: &mut Host,
+    host: &mut Host<B>,
     report: &Report,
     well: u64,
     tried: u64,
 ) -> Result<(), Halt>
-    ensures text { OnOk result (output.new.items ≡ output.old.items ++ closing number host.old report.now well tried) }
+    ensures text { OnOk result (output.new.items ≡ output.old.items
+        ++ closing number host.old.keys report.now well tried) }
     ensures stops { OnErr result (result ≡ Err Halt.NoMemory) }
     ensures same { host.new ≡ host.old }
 {
@@ -234,8 +236,13 @@ fn push_closing(
 }
 
 /// Adds how many use each key and each mapping, and that the line was carried out.
-fn push_users(output: &mut Vec<u8>, number: u32, host: &mut Host) -> Result<(), NoMemory>
-    ensures text { OnOk result (output.new.items ≡ output.old.items ++ (counts_lines number host.old ++ ok_line number)) }
+fn push_users<B: Shelf>(
+    output: &mut Vec<u8>,
+    number: u32,
+    host: &mut Host<B>,
+) -> Result<(), NoMemory>
+    ensures text { OnOk result (output.new.items ≡ output.old.items
+        ++ (counts_lines number host.old.keys ++ ok_line number)) }
     ensures same { host.new ≡ host.old }
 {
     let counts = host.counts()?;

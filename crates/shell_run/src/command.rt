@@ -3,10 +3,9 @@ ghost use Rattle.std.specs.Prelude.{◌≡◌, Err, List, IfOk, Ok, is_some, tru
 ghost use Rattle.std.specs.Result.{result_err};
 ghost use Rattle.edge_io.specs.Faults.{Rose};
 ghost use Rattle.key_machine.specs.Fair.{WasAsked};
-ghost use Rattle.key_store.specs.Calls.{state_after};
 ghost use Rattle.shell_run.specs.declared.found.FoundEntry.{FoundEntry};
 ghost use Rattle.shell_run.specs.Answers.{Acts, ActsAs, Agrees, Executes, Fetches, IsOfLine, HasWanted, Reads, Replies, TakesKit, WhereTold, settled, shown_unless, spot_of, wants_of};
-ghost use Rattle.shell_run.specs.Hosts.{host_step};
+ghost use Rattle.shell_run.specs.Hosts.{host_after, host_step};
 ghost use Rattle.shell_run.specs.Takings.{is_fetch};
 ghost use Rattle.shell_run.specs.Transcript.{commanded, told_world};
 
@@ -17,6 +16,7 @@ use crate::outside::Outside;
 use dataset_tree::{Refusal, Stop};
 use encryption_roots::{Fetched, KeyCmd, LineKit, Location, PropText, SeedGot};
 use key_store::Needs;
+use shelf_store::Shelf;
 use std::alloc::Global;
 
 /// What a command that isn't refused shows.
@@ -28,9 +28,9 @@ pub(crate) enum Shown {
 
 /// Carries out a command of line `number`, which is this part of it, with what it takes for it, or gives its
 /// refusal. Where the state refuses it, nothing is taken. An `Err` says that the run is over.
-pub(crate) fn execute<W: Outside>(
+pub(crate) fn execute<B: Shelf, W: Outside>(
     alloc: Global,
-    host: &mut Host,
+    host: &mut Host<B>,
     outside: &mut W,
     number: u32,
     part: u32,
@@ -73,13 +73,18 @@ fn settle(answer: Result<Shown, Stop>) -> Result<Result<Shown, Refusal>, Halt>
 }
 
 /// Carries out a command with its kit. No line gives any of the last ones yet.
-fn carry(alloc: Global, host: &mut Host, command: &KeyCmd, kit: &LineKit) -> Result<Shown, Stop>
+fn carry<B: Shelf>(
+    alloc: Global,
+    host: &mut Host<B>,
+    command: &KeyCmd,
+    kit: &LineKit,
+) -> Result<Shown, Stop>
     requires { IsOfLine command.now }
     ensures reply { Replies result (host_step host.old command.now kit.now).reply }
-    ensures state { host.new ≡ state_after result host.old (host_step host.old command.now kit.now).state }
+    ensures state { host.new ≡ host_after result host.old (host_step host.old command.now kit.now).state }
 {
     match command {
-        KeyCmd::Create { name, opts } => match host.create(name, opts, kit) {
+        KeyCmd::Create { name, opts } => match host.create(alloc, name, opts, kit) {
             Ok(_) => Ok(Shown::Done),
             Err(stop) => Err(stop),
         },

@@ -4,17 +4,22 @@
 mod answer;
 mod command;
 mod ending;
+mod families;
 mod found;
 mod host;
 mod laws;
+mod lone_keys;
 mod outside;
 mod reply;
 mod run;
 mod script;
 mod task;
+mod words;
 
 pub use found::{Found, FoundEntry, FoundKind};
-pub use laws::{failures_tell_what_failed, parts_stand_in_order};
+pub use laws::{
+    failures_tell_what_failed, other_words_are_faulty, parts_stand_in_order, words_say_the_limit,
+};
 pub use run::run_alone;
 
 #[cfg(test)]

@@ -1,17 +1,18 @@
 // A run: the lines of a script, one after another.
-ghost use Rattle.std.specs.Prelude.{◌≡◌, ◌≢◌, ◌≤◌, ◌⊎◌, [], IfErr, IfOk, IfSome, OnErr, OnOk, None, Some, is_some, length, true};
+ghost use Rattle.std.specs.Prelude.{◌≡◌, ◌≢◌, ◌≤◌, ◌⊎◌, [], IfErr, IfOk, IfSome, OnErr, OnOk, None, Some, is_some, length, map, string_bytes, true};
 ghost use Rattle.std.specs.Io.KnownBytes.{Appends};
 ghost use Rattle.edge_io.specs.Faults.{HasCause, Rose};
-ghost use Rattle.key_machine.specs.Plain.{no_keys};
 ghost use Rattle.shell_lines.specs.Grammar.{line_of};
 ghost use Rattle.shell_run.specs.Answers.{Acts, WhereTold};
 ghost use Rattle.shell_run.specs.Endings.{closing_line, SourceFaults, SinkFaults, ClosesAs};
+ghost use Rattle.shell_run.specs.Hosts.{no_host};
 ghost use Rattle.shell_run.specs.Outer.{Outer, calls_of};
-ghost use Rattle.shell_run.specs.Progress.{Ends, EndsInLine, GoesPast, LineRan, Replied, RunsFrom, StartsNot, TookCut};
+ghost use Rattle.shell_run.specs.Progress.{Ends, EndsInLine, GoesPast, LineRan, Replied, RunsFrom, TookCut};
 ghost use Rattle.shell_run.specs.Ran.{IsAnswered, Printed, Ran, WroteLast};
 ghost use Rattle.shell_run.specs.Script.{script_of};
 ghost use Rattle.shell_run.specs.Texts.{usage_line};
 ghost use Rattle.shell_run.specs.Transcript.{answer_if, told_transcript, told_world, run_from, transcript};
+ghost use Rattle.shell_run.specs.Words.{default_limit, limit_of};
 
 use crate::answer::answer;
 use crate::ending::Ending;
@@ -20,7 +21,10 @@ use crate::host::Host;
 use crate::outside::{Lent, Outside};
 use crate::reply::push_bad;
 use crate::script::MAX_LINES;
+use crate::words::limit_of;
 use edge_io::{Entropy, Failed, KeyFiles, LineReader, Sink, Source};
+use salt_rotation::MAX_SALT_USES;
+use shelf_store::Shelf;
 use std::alloc::Global;
 
 const USAGE_LINE: &[u8] = b"usage: zfs_shell [--max-salt-uses N] [--generate N]\n";
@@ -32,14 +36,15 @@ const NO_MEMORY_LINE: &[u8] = b"no memory\n";
 /// Runs a script over key files and a source of entropy, prints its replies, and answers the status of the program:
 ///
 /// - 0: the script was read to its end.
-/// - 2: `words` aren't those of a command line; the last line of output is the usage.
+/// - 2: `words` aren't in the form, which is nothing, or `--max-salt-uses` with a number from 1 to 400000000 as the
+///   next word or behind `=`; the last line of output is the usage.
 /// - 3: a line isn't in the language or is one too many; the last line is `N bad AT`.
 /// - 4: the script couldn't be read; the last line is `read fault`.
 /// - 5: a reply couldn't be written.
 /// - 12: an allocation was refused; the last line is `no memory`.
 ///
 /// A failed taking of key material or entropy is answered by its line's refusal, and listed in `found`.
-pub fn run_alone<S: Source, O: Sink, F: KeyFiles, E: Entropy>(
+pub fn run_alone<S: Source, O: Sink, F: KeyFiles, E: Entropy, B: Shelf>(
     alloc: Global,
     words: &[String],
     script: &mut S,
@@ -66,7 +71,7 @@ pub fn run_alone<S: Source, O: Sink, F: KeyFiles, E: Entropy>(
           fills = calls_of (E.calls entropy.new) (E.failing entropy.new) (E.faults entropy.new);
           found = found.new;
         } in
-        let run = told_transcript words.now (S.left script.old) before found.new in
+        let run = told_transcript B.tells (map string_bytes words.now) (S.left script.old) before found.new in
         let unprinted : Printed = record { taken = O.taken out.old; faults = O.faults out.old } in
         let printed : Printed = record { taken = O.taken out.new; faults = O.faults out.new } in
         Ran run result unprinted printed before after }
@@ -84,25 +89,25 @@ pub fn run_alone<S: Source, O: Sink, F: KeyFiles, E: Entropy>(
     ensures read_faults { S.faults script.old ≤ S.faults script.new }
     ensures write_faults { O.faults out.old ≤ O.faults out.new }
 
-    // A faulty command line gives the usage, and neither reads nor takes anything.
-    ensures usage { words.now ≢ [] → result ≡ 2 }
-    ensures usage_only { result ≡ 2 → words.now ≢ [] }
-    ensures usage_line { words.now ≢ [] →
+    // Words that aren't in the form give the usage, and neither reads nor takes anything.
+    ensures usage { limit_of (map string_bytes words.now) ≡ None → result ≡ 2 }
+    ensures usage_only { result ≡ 2 → limit_of (map string_bytes words.now) ≡ None }
+    ensures usage_line { limit_of (map string_bytes words.now) ≡ None →
         WroteLast usage_line (O.taken out.old) (O.taken out.new)
         (O.faults out.old) (O.faults out.new) }
-    ensures usage_takes_nothing { words.now ≢ [] → (script.new ≡ script.old)
+    ensures usage_takes_nothing { limit_of (map string_bytes words.now) ≡ None → (script.new ≡ script.old)
         × (files.new ≡ files.old) × (entropy.new ≡ entropy.old) × (found.new ≡ []) }
 
     // Where no count rose, nothing is listed.
     ensures none_failed { ¬ Rose (F.faults files.old) (F.faults files.new) →
         ¬ Rose (E.faults entropy.old) (E.faults entropy.new) → found.new ≡ [] }
 {
-    let ending = run_words(alloc, words, script, out, files, entropy, found);
+    let ending = run_words::<S, O, F, E, B>(alloc, words, script, out, files, entropy, found);
     close(alloc, ending, out).status()
 }
 
 /// Does what the words ask, and says how the run ends.
-fn run_words<S: Source, O: Sink, F: KeyFiles, E: Entropy>(
+fn run_words<S: Source, O: Sink, F: KeyFiles, E: Entropy, B: Shelf>(
     alloc: Global,
     words: &[String],
     script: &mut S,
@@ -126,17 +131,59 @@ fn run_words<S: Source, O: Sink, F: KeyFiles, E: Entropy>(
           found = found.new;
         } in
         RunsFrom (λ line. line ≤ MAX_LINES) before after (λ found made.
-        IfSome (told_world no_keys before (script_of 1 (S.left script.old))) (λ w.
-        Ends result (transcript words.now found w) made (O.taken out.old) (O.taken out.new))) }
+        IfSome (told_world (no_host B.tells default_limit) before (script_of 1 (S.left script.old))) (λ w.
+        Ends result (transcript (map string_bytes words.now) found w) made (O.taken out.old) (O.taken out.new))) }
     ensures end { result ≡ Ending.Done → IfSome (S.left script.old) (λ bytes. S.left script.new ≡ Some []) }
-    ensures usage { words.now ≢ [] → result ≡ Ending.Usage }
-    ensures usage_only { result ≡ Ending.Usage → words.now ≢ [] }
-    ensures nothing { words.now ≢ [] → (script.new ≡ script.old) × (files.new ≡ files.old) × (entropy.new ≡ entropy.old)
-        × (found.new ≡ found.old) × (out.new ≡ out.old) }
+    ensures usage { limit_of (map string_bytes words.now) ≡ None → result ≡ Ending.Usage }
+    ensures usage_only { result ≡ Ending.Usage → limit_of (map string_bytes words.now) ≡ None }
+    ensures nothing { limit_of (map string_bytes words.now) ≡ None → (script.new ≡ script.old)
+        × (files.new ≡ files.old) × (entropy.new ≡ entropy.old) × (found.new ≡ found.old) × (out.new ≡ out.old) }
     ensures source { SourceFaults (Some result) (S.faults script.old) (S.faults script.new) }
     ensures sink { SinkFaults (Some result) (O.faults out.old) (O.faults out.new) }
 {
-    match start(alloc, words) {
+    match limit_of(words) {
+        None => Ending::Usage,
+        Some(limit) => {
+            run_limited::<S, O, F, E, B>(alloc, limit, script, out, files, entropy, found)
+        }
+    }
+}
+
+/// Runs a script on a host that holds nothing, and says how it ended. A salt serves `limit` draws.
+fn run_limited<S: Source, O: Sink, F: KeyFiles, E: Entropy, B: Shelf>(
+    alloc: Global,
+    limit: u64,
+    script: &mut S,
+    out: &mut O,
+    files: &mut F,
+    entropy: &mut E,
+    found: &mut Found,
+) -> Ending
+    requires least { 1 ≤ limit }
+    requires most { limit ≤ MAX_SALT_USES }
+    ensures told { let before : Outer = record {
+      files = F.files files.old;
+      fetches = calls_of (F.calls files.old) (F.failing files.old) (F.faults files.old);
+      entropy = E.left entropy.old;
+      fills = calls_of (E.calls entropy.old) (E.failing entropy.old) (E.faults entropy.old);
+      found = found.old;
+    } in
+        let after : Outer = record {
+          files = F.files files.new;
+          fetches = calls_of (F.calls files.new) (F.failing files.new) (F.faults files.new);
+          entropy = E.left entropy.new;
+          fills = calls_of (E.calls entropy.new) (E.failing entropy.new) (E.faults entropy.new);
+          found = found.new;
+        } in
+        RunsFrom (λ line. line ≤ MAX_LINES) before after (λ found made.
+        IfSome (told_world (no_host B.tells limit) before (script_of 1 (S.left script.old))) (λ w.
+        Ends result (run_from found w) made (O.taken out.old) (O.taken out.new))) }
+    ensures end { result ≡ Ending.Done → IfSome (S.left script.old) (λ bytes. S.left script.new ≡ Some []) }
+    ensures not_usage { result ≢ Ending.Usage }
+    ensures source { SourceFaults (Some result) (S.faults script.old) (S.faults script.new) }
+    ensures sink { SinkFaults (Some result) (O.faults out.old) (O.faults out.new) }
+{
+    match make::<B>(alloc, limit) {
         Ok((mut reader, mut host)) => {
             run_script(
                 alloc,
@@ -154,10 +201,10 @@ fn run_words<S: Source, O: Sink, F: KeyFiles, E: Entropy>(
 }
 
 /// Runs a script, and says how it ended.
-fn run_script<S: Source, O: Sink, F: KeyFiles, E: Entropy>(
+fn run_script<S: Source, O: Sink, F: KeyFiles, E: Entropy, B: Shelf>(
     alloc: Global,
     reader: &mut LineReader,
-    host: &mut Host,
+    host: &mut Host<B>,
     script: &mut S,
     out: &mut O,
     files: &mut F,
@@ -165,7 +212,6 @@ fn run_script<S: Source, O: Sink, F: KeyFiles, E: Entropy>(
     found: &mut Found,
 ) -> Ending
     requires reader { reader.old ≡ [] }
-    requires host { host.old ≡ no_keys }
     ensures told { let before : Outer = record {
       files = F.files files.old;
       fetches = calls_of (F.calls files.old) (F.failing files.old) (F.faults files.old);
@@ -181,7 +227,7 @@ fn run_script<S: Source, O: Sink, F: KeyFiles, E: Entropy>(
           found = found.new;
         } in
         RunsFrom (λ line. line ≤ MAX_LINES) before after (λ found made.
-        IfSome (told_world no_keys before (script_of 1 (S.left script.old))) (λ w.
+        IfSome (told_world host.old before (script_of 1 (S.left script.old))) (λ w.
         Ends result (run_from found w) made (O.taken out.old) (O.taken out.new))) }
     ensures end { result ≡ Ending.Done → IfSome (S.left script.old) (λ bytes. S.left script.new ≡ Some []) }
     ensures not_usage { result ≢ Ending.Usage }
@@ -200,32 +246,23 @@ fn run_script<S: Source, O: Sink, F: KeyFiles, E: Entropy>(
     ending
 }
 
-/// A reader that has taken nothing, and a host that holds nothing, for a command line without words.
-fn start(alloc: Global, words: &[String]) -> Result<(LineReader, Host), Ending>
-    ensures made { IfOk result (λ made. (made.0 ≡ []) × (made.1 ≡ no_keys) × (words.now ≡ [])) }
-    ensures none { IfErr result (λ ending. StartsNot ending words.now) }
-{
-    match words {
-        [] => make(alloc),
-        [_, ..] => Err(Ending::Usage),
-    }
-}
-
-/// A reader that has taken nothing, and a host that holds nothing.
-fn make(alloc: Global) -> Result<(LineReader, Host), Ending>
-    ensures made { IfOk result (λ made. (made.0 ≡ []) × (made.1 ≡ no_keys)) }
+/// A reader that has taken nothing, and a host that holds nothing, of whose salts each serves `limit` draws.
+fn make<B: Shelf>(alloc: Global, limit: u64) -> Result<(LineReader, Host<B>), Ending>
+    requires least { 1 ≤ limit }
+    requires most { limit ≤ MAX_SALT_USES }
+    ensures made { IfOk result (λ made. (made.0 ≡ []) × (made.1 ≡ no_host B.tells limit)) }
     ensures none { IfErr result (λ ending. ending ≡ Ending.NoMemory) }
 {
-    match (Host::new(alloc), LineReader::new(alloc)) {
+    match (Host::new(alloc, limit), LineReader::new(alloc)) {
         (Ok(host), Ok(reader)) => Ok((reader, host)),
         _ => Err(Ending::NoMemory),
     }
 }
 
 /// Runs the lines that are left of the script.
-pub(crate) fn run_lines<O: Sink, W: Outside>(
+pub(crate) fn run_lines<O: Sink, B: Shelf, W: Outside>(
     alloc: Global,
-    host: &mut Host,
+    host: &mut Host<B>,
     out: &mut O,
     outside: &mut W,
 ) -> Ending
@@ -248,9 +285,9 @@ pub(crate) fn run_lines<O: Sink, W: Outside>(
 }
 
 /// Takes the next line, carries it out and prints its reply; else says how the run ends.
-fn run_line<O: Sink, W: Outside>(
+fn run_line<O: Sink, B: Shelf, W: Outside>(
     alloc: Global,
-    host: &mut Host,
+    host: &mut Host<B>,
     reply: &mut Vec<u8>,
     out: &mut O,
     outside: &mut W,
@@ -274,10 +311,10 @@ fn run_line<O: Sink, W: Outside>(
 }
 
 /// Carries out a line and prints its reply; else says how the run ends.
-fn reply_to<O: Sink, W: Outside>(
+fn reply_to<O: Sink, B: Shelf, W: Outside>(
     alloc: Global,
     number: u32,
-    host: &mut Host,
+    host: &mut Host<B>,
     line: &[u8],
     reply: &mut Vec<u8>,
     out: &mut O,

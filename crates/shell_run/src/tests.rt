@@ -3,6 +3,7 @@ ghost use Rattle.std.specs.Prelude.{None, [], IfOk, ◌≡◌};
 
 use super::*;
 use edge_io::{Failed, MemEntropy, MemKeyFiles, MemSink, MemSource, Sink, Source};
+use shelf_store::MemShelf;
 use std::alloc::Global;
 use std::test::Fail;
 
@@ -61,7 +62,7 @@ fn run_plain<S: Source, O: Sink>(alloc: Global, source: &mut S, sink: &mut O) ->
     let mut files = key_files(alloc, &[])?;
     let mut entropy = entropy_of(alloc, 64, &[])?;
     let mut found = nothing_found(alloc)?;
-    Ok(run_alone(
+    Ok(run_alone::<_, _, _, _, MemShelf>(
         alloc,
         &[],
         source,
@@ -183,7 +184,8 @@ const ROWS: [Row; 5] = [
         &[0, 1],
         &[0],
         31,
-        b"1 error 12 KeyFault\n2 error 12 KeyFault\n3 error 1 NoSuch\n4 error 1 NoSuch\n5 error 13 EntropyFault\n6 error 1 NoSuch\n",
+        b"1 error 12 KeyFault\n2 error 12 KeyFault\n3 error 1 NoSuch\n4 error 1 NoSuch\n5 error 13 EntropyFault\n\
+          6 error 1 NoSuch\n",
         &[
             (1, 0, FoundKind::NewKey),
             (1, 0, FoundKind::Seed),
@@ -213,7 +215,7 @@ fn a_run_goes_on_behind_failed_takings_and_lists_them(rt: HostRuntime) -> Result
         let mut files = key_files(alloc, fetches)?;
         let mut entropy = entropy_of(alloc, len, fills)?;
         let mut found = nothing_found(alloc)?;
-        let status = run_alone(
+        let status = run_alone::<_, _, _, _, MemShelf>(
             alloc,
             &[],
             &mut source,
@@ -228,6 +230,73 @@ fn a_run_goes_on_behind_failed_takings_and_lists_them(rt: HostRuntime) -> Result
             .iter()
             .map(|entry| (entry.line, entry.part, entry.what));
         assert!(rt; listed.eq(failed.iter().copied()));
+    }
+    Ok(())
+}
+
+const USAGE: &[u8] = b"usage: zfs_shell [--max-salt-uses N] [--generate N]\n";
+
+// The words of command lines, each with the status of a run under them.
+const WORDS: [(&[&str], u8); 19] = [
+    (&[], 0),
+    (&["--max-salt-uses", "1"], 0),
+    (&["--max-salt-uses", "400000000"], 0),
+    (&["--max-salt-uses=2"], 0),
+    (&["--max-salt-uses=000000007"], 0),
+    (&["--max-salt-uses", "0"], 2),
+    (&["--max-salt-uses=0"], 2),
+    (&["--max-salt-uses", "400000001"], 2),
+    (&["--max-salt-uses=0000000001"], 2),
+    (&["--max-salt-uses="], 2),
+    (&["--max-salt-uses=", "2"], 2),
+    (&["--max-salt-uses"], 2),
+    (&["--max-salt-uses", "+2"], 2),
+    (&["--max-salt-uses", "2", "--max-salt-uses", "2"], 2),
+    (&["--max-salt-uses=2", "--max-salt-uses=2"], 2),
+    (&["--"], 2),
+    (&["--", "--max-salt-uses=2"], 2),
+    (&["--generate", "2"], 2),
+    (&[""], 2),
+];
+
+fn strings(alloc: Global, words: &[&str]) -> Result<Vec<String>, Fail> {
+    let mut strings = Vec::new(alloc);
+    for word in words {
+        strings.push(String::from_str(alloc, word)?)?;
+    }
+    Ok(strings)
+}
+
+// Runs a script of one line under these words.
+fn run_under(alloc: Global, words: &[&str], sink: &mut MemSink) -> Result<u8, Fail> {
+    let words = strings(alloc, words)?;
+    let mut source = MemSource::new(Vec::from_slice(alloc, b"list\n")?, Vec::new(alloc));
+    let mut files = key_files(alloc, &[])?;
+    let mut entropy = entropy_of(alloc, 0, &[])?;
+    let mut found = nothing_found(alloc)?;
+    Ok(run_alone::<_, _, _, _, MemShelf>(
+        alloc,
+        &words,
+        &mut source,
+        sink,
+        &mut files,
+        &mut entropy,
+        &mut found,
+    ))
+}
+
+#[test]
+fn words_in_and_out_of_form(rt: HostRuntime) -> Result<(), Fail> {
+    let alloc = rt.alloc();
+    for (words, status) in WORDS {
+        let mut sink = MemSink::new(Vec::new(alloc));
+        let answered = run_under(alloc, words, &mut sink)?;
+        let printed = if status == 0 {
+            b"1 ok\n".as_slice()
+        } else {
+            USAGE
+        };
+        assert_eq!(rt; (answered, sink.bytes()), (status, printed));
     }
     Ok(())
 }

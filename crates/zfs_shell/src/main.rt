@@ -6,6 +6,7 @@ ghost use Rattle.std.specs.Prelude.{◌≡◌, [], IfOk};
 
 use dataset_tree::NoMemory;
 use edge_io::{Reading, SystemEntropy, SystemKeyFiles, Writing};
+use shelf_store::MemShelf;
 use shell_run::{Found, run_alone};
 use std::alloc::{AllocError, Global};
 use std::env;
@@ -24,7 +25,7 @@ fn main(rt: HostRuntime) -> ExitCode {
             let mut out = Writing::new(rt.stdout());
             let mut files = SystemKeyFiles::new(&rt);
             let mut entropy = SystemEntropy::new(&rt);
-            let status = run_alone(
+            let status = run_alone::<_, _, _, _, MemShelf>(
                 alloc,
                 &words,
                 &mut script,

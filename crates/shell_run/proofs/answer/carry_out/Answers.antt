@@ -4,7 +4,7 @@ use Rattle.shell_run.proofs.TaskLemmas.{task_of_line}
 use Rattle.shell_run.proofs.answer.carry_out.Goals as goal
 
 pub perform-requires-clause-of_line : goal.perform-requires-clause-of_line
-perform-requires-clause-of_line g c = task_of_line c.args.host.now c.args.line.now c.as_slice.result.now c.requires (c.as_slice.ensures.value ∙ c.in-Ok.ensures.asked.commands)
+perform-requires-clause-of_line g c = task_of_line c.args.host.now.keys c.args.line.now c.as_slice.result.now c.requires (c.as_slice.ensures.value ∙ c.in-Ok.ensures.asked.commands)
 
 pub returns-clause-told : goal.returns-clause-told
 returns-clause-told g c =

@@ -20,10 +20,10 @@ returns-clause-told g c =
     (g.W.Outside.script c.args.outside.now) (g.W.Outside.script c.take_kit.new.outside) c.carry.result c.in-Ok.ensures c.in-Ok-take_kit.ensures.takes c.carry.ensures.reply c.carry.ensures.state)
 
 pub returns-in-Err-clause-key_fault : goal.returns-in-Err-clause-key_fault
-returns-in-Err-clause-key_fault g c = λ same. absurd (needs_apart KeyFault key_taking c.args.host.now c.args.command.now c.requires c.in-Err.stop c.in-Err.ensures (rw c.settle.ensures at same))
+returns-in-Err-clause-key_fault g c = λ same. absurd (needs_apart KeyFault key_taking c.args.host.now.keys c.args.command.now c.requires c.in-Err.stop c.in-Err.ensures (rw c.settle.ensures at same))
 
 pub returns-in-Err-clause-entropy_fault : goal.returns-in-Err-clause-entropy_fault
-returns-in-Err-clause-entropy_fault g c = λ same. absurd (needs_apart EntropyFault entropy_taking c.args.host.now c.args.command.now c.requires c.in-Err.stop c.in-Err.ensures (rw c.settle.ensures at same))
+returns-in-Err-clause-entropy_fault g c = λ same. absurd (needs_apart EntropyFault entropy_taking c.args.host.now.keys c.args.command.now c.requires c.in-Err.stop c.in-Err.ensures (rw c.settle.ensures at same))
 
 pub returns-clause-key_fault : goal.returns-clause-key_fault
 returns-clause-key_fault g c = λ same.

@@ -1,4 +1,5 @@
-use Rattle.std.proofs.Common.{◌≤◌, ◌∙◌, sym}
+use Rattle.std.proofs.Common.{◌≤◌, ◌∙◌, sym, map}
+use Rattle.std.specs.Prelude.{string_bytes}
 use Rattle.shell_run.proofs.EndingLemmas.{completes, done_is, ran, none_listed, sink_untouched, source_unread, statuses}
 use Rattle.shell_run.proofs.run.run_alone.Goals as goal
 
@@ -6,7 +7,7 @@ pub returns-clause-ran : goal.returns-clause-ran
 returns-clause-ran g c =
     let run = c.run_words-ending in
     rw c.status.ensures
-    (ran c.args.words.now (g.S.Source.left c.args.script.now) run.result c.close.result (g.O.Sink.taken c.args.out.now) (g.O.Sink.taken run.new.out) (g.O.Sink.taken c.close.new.out)
+    (ran g.B.Shelf.tells (map string_bytes c.args.words.now) (g.S.Source.left c.args.script.now) run.result c.close.result (g.O.Sink.taken c.args.out.now) (g.O.Sink.taken run.new.out) (g.O.Sink.taken c.close.new.out)
     (g.O.Sink.faults c.args.out.now) (g.O.Sink.faults run.new.out) (g.O.Sink.faults c.close.new.out) _ _ c.requires run.ensures.told c.close.ensures.ending run.ensures.sink c.close.ensures.told c.close.ensures.silent)
 
 pub returns-clause-none_failed : goal.returns-clause-none_failed

@@ -9,7 +9,7 @@ returns-clause-told g c =
     let run = c.run_lines-ending in
     let names = same_names _ _ _ _ _ _ _ _ run.ensures.holds in
     rw (c.files-1.given.1 (sym names.1), c.entropy-1.given.1 (sym names.2), c.found-1.given.1 (sym names.3))
-    (script_runs run.result c.args.host.now c.args.reader.now (g.S.Source.left c.args.script.now) (g.O.Sink.taken c.args.out.now) (g.O.Sink.taken run.new.out) _ _ c.requires.reader c.requires.host run.ensures.told)
+    (script_runs run.result c.args.host.now c.args.reader.now (g.S.Source.left c.args.script.now) (g.O.Sink.taken c.args.out.now) (g.O.Sink.taken run.new.out) _ _ c.requires.reader run.ensures.told)
 
 pub returns-clause-end : goal.returns-clause-end
 returns-clause-end g c = λ done.

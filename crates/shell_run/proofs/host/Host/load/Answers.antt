@@ -1,26 +1,31 @@
 use Rattle.std.proofs.Common.{◌≡◌, Option, None, subst}
 use Rattle.encryption_roots.specs.declared.command.KeyCmd.{KeyCmd}
 use Rattle.encryption_roots.specs.declared.command.KeyCmd.TheVariants as commands
+use Rattle.encryption_roots.specs.declared.props.Location.{Location}
 use Rattle.key_ciphers.specs.Ciphers.{ciphers}
 use Rattle.key_machine.specs.Plain.{Plain}
 use Rattle.key_machine.specs.Step.{told}
-use Rattle.key_store.specs.Calls.{AnswersDone, state_after, stepped}
-use Rattle.encryption_roots.specs.declared.props.Location.{Location}
-use Rattle.key_store.proofs.AgreesLemmas.{agrees_after}
+use Rattle.key_store.specs.Calls.{AnswersDone, stepped}
+use Rattle.shell_run.specs.Hosts.{HostState, host_after, host_step}
+use Rattle.shell_run.proofs.HostLemmas.{keys_after, still_host}
+use Rattle.shell_run.proofs.PairedLemmas.{load_same}
 use Rattle.shell_run.proofs.host.Host.load.Goals as goal
 
 pub invariant_of-self : goal.invariant_of-self
-invariant_of-self c =
+invariant_of-self g c =
     let before : Plain = c.self.inside.keys in
     let place : Option Location = None in
     let command : KeyCmd = commands.Load c.args.name.now c.args.check_only place in
-    agrees_after c.self.inside.words c.load.result before (stepped before command c.args.kit.now).state c.load.new.self c.self.invariant
-    (c.key_commands_leave_the_slots.ensures.load c.self.inside.words before c.args.name.now c.args.check_only place (told ciphers before command c.args.kit.now) c.self.invariant) (c.load.ensures.state place)
+    still_host c.load.result before (stepped before command c.args.kit.now).state c.load.new.self c.self.inside.families.items c.self.inside.limit c.self.invariant
+    (load_same before c.args.name.now c.args.check_only place (told ciphers before command c.args.kit.now)) (c.load.ensures.state place)
 
 pub returns-clause-reply : goal.returns-clause-reply
-returns-clause-reply c = λ place.
-    subst (λ (p : Plain). AnswersDone c.load.result (stepped p (commands.Load c.args.name.now c.args.check_only place) c.args.kit.now).reply) c.self.view_is (c.load.ensures.reply place)
+returns-clause-reply g c = λ place.
+    subst (λ (h : HostState). AnswersDone c.load.result (stepped h.keys (commands.Load c.args.name.now c.args.check_only place) c.args.kit.now).reply) c.self.view_is (c.load.ensures.reply place)
 
 pub returns-clause-state : goal.returns-clause-state
-returns-clause-state c = λ place.
-    subst (λ (p : Plain). c.load.new.self ≡ state_after c.load.result p (stepped p (commands.Load c.args.name.now c.args.check_only place) c.args.kit.now).state) c.self.view_is (c.load.ensures.state place)
+returns-clause-state g c = λ place.
+    let before : HostState = record { keys = c.self.inside.keys; families = c.self.inside.families.items; limit = c.self.inside.limit; tells = g.B.Shelf.tells } in
+    let after : HostState = record { keys = c.load.new.self; families = c.self.inside.families.items; limit = c.self.inside.limit; tells = g.B.Shelf.tells } in
+    subst (λ (h : HostState). after ≡ host_after c.load.result h (host_step h (commands.Load c.args.name.now c.args.check_only place) c.args.kit.now).state) c.self.view_is
+    (keys_after c.load.result before c.load.new.self (stepped c.self.inside.keys (commands.Load c.args.name.now c.args.check_only place) c.args.kit.now).state (c.load.ensures.state place))
