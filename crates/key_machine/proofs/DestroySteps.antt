@@ -252,7 +252,7 @@ module _ (c : Ciphers) (p : Plain) (s : Sound c p) (gone : ℕ) (free : is_neede
       ⊎_elim (λ (same : family p.tree.rows id ≡ family p.tree.rows gone). record_of_family p gone (relative p gone id encrypted.0 encrypted.1 apart same) (family p.tree.rows id))
       (λ (strange : family p.tree.rows id ≢ family p.tree.rows gone). record_of_other p gone (family p.tree.rows id) strange) (cases_eq (family p.tree.rows id) (family p.tree.rows gone))
 
-  other_keeps : id ≢ gone → KeepsKey c p (destroyed p gone) id slot
+  pub other_keeps : id ≢ gone → KeepsKey c p (destroyed p gone) id slot
   other_keeps apart =
       let owner_is : owner_of (destroyed p gone) id ≡ owner_of p id = owner_after p gone free s.tree id apart in
       let of : family (destroyed p gone).tree.rows id ≡ family p.tree.rows id = family_after p gone free s.tree id apart in
