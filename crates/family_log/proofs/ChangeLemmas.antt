@@ -1,19 +1,20 @@
--- A change of a head on an honest shelf.
-use Rattle.std.proofs.Common.{◌≡◌, ℕ, Bool, true, false, ◌&&◌, List, [], ◌∷◌, ◌++◌, Option, Some, None, Result, Ok, Err, IfSome, refl, ap, sym, ◌∙◌, subst, arith}
+-- A change of a head, on an honest shelf or not.
+use Rattle.std.proofs.Common.{◌≡◌, ℕ, Bool, true, false, ◌&&◌, List, [], ◌∷◌, ◌++◌, length, ◌<◌, Option, Some, None, IfSome, refl, ap, sym, ◌∙◌, subst, arith}
 use Rattle.std.specs.Prelude.{◌==◌}
 use Rattle.std.specs.Option.{option_flatten, option_map}
-use Rattle.std.proofs.lemmas.Bool.Decides.{nat_tests, Decides-eqb}
+use Rattle.std.proofs.lemmas.Bool.Decides.{nat_tests}
 use Rattle.family_log.specs.declared.table.Table.{Table}
 use Rattle.family_log.specs.declared.head.Head.{Head}
 use Rattle.family_log.specs.declared.entry.HeadChange.{HeadChange}
 use Rattle.family_log.specs.declared.entry.Spot.{Spot}
 use Rattle.family_log.specs.declared.entry.LogEntry.{LogEntry}
-use Rattle.family_log.specs.Log.{Changes, KeepsLast, changes_in, changed_head, head_spot, is_head, length_said, ref_in, last_ref}
-use Rattle.family_log.specs.Model.{FamilyState, table_of}
+use Rattle.family_log.specs.Log.{Changes, KeepsLast, changes_in, changed_head, head_spot, is_head, length_said, ref_in}
+use Rattle.family_log.specs.Model.{FamilyState, HasLengths, IsFamily, table_of}
 use Rattle.family_log.specs.Calls.{IsChangeOf, given, with_change, with_table}
-use Rattle.family_log.specs.Honest.{IsHonest, LeadsAsLogged, TellsTheLog, leads}
+use Rattle.family_log.specs.Honest.{IsHonest, LeadsAsLogged, TellsTheLog}
 use Rattle.family_log.proofs.LogLemmas.{newest-other}
-use Rattle.family_log.proofs.HonestLemmas.{told_still}
+use Rattle.family_log.proofs.HeadLemmas.{IsKept-changed}
+use Rattle.family_log.proofs.ToldLemmas.{GoesAlong, lengths-along, still_told, tells-along}
 
 by_space : {P : Type 0} (b : Bool) → (b ≡ true → P) → (b ≡ false → P) → P
 by_space true yes_case no_case = yes_case refl
@@ -73,48 +74,56 @@ changed_keeps log entry head spot of_head other =
       refs = λ record_size object index. ap option_flatten (newest-other (ref_in record_size object index) spot log entry it.0 it.1.0 apart);
     }
 
--- what the new table leads to
-leads_now : (family : FamilyState) (head : ℕ) (change : HeadChange) (blocks : List (List ℕ)) → family.shelf.held ≡ Some blocks
-    → LeadsAsLogged family head change
-    → (object index : ℕ) → leads blocks change.table object index
-    ≡ Ok (last_ref change.table.block (family.log ++ change.entry ∷ []) (head_spot head) object index)
-leads_now family head change blocks held as_logged =
-    subst
-    (λ (shelf : Option (List (List ℕ))). IfSome shelf (λ blocks. (object index : ℕ) → leads blocks change.table object index
-    ≡ Ok (last_ref change.table.block (family.log ++ change.entry ∷ []) (head_spot head) object index)))
-    held as_logged
-
 not_a_head : (b : Bool) → (b && false) ≡ true → ⊥
 not_a_head true e = cc
 not_a_head false e = cc
 
-own_spot : (family : FamilyState) (head : ℕ) (change : HeadChange) (honest : IsHonest family) → IsChangeOf family head change
-    → LeadsAsLogged family head change → (of_head : ℕ) (snap : Option (List ℕ)) → is_head head (spot_at of_head snap) ≡ true
-    → IfSome (table_of (spot_at of_head snap) (with_table head change.table family.heads))
-    (λ table. TellsTheLog honest.blocks (family.log ++ change.entry ∷ []) (spot_at of_head snap) table)
-own_spot family head change honest is as_logged of_head None here =
-    let same : head ≡ of_head = grind (arith, nat_tests) in
-    subst
-    (λ (id : ℕ). IfSome (table_of (head_spot id) (with_table head change.table family.heads))
-    (λ table. TellsTheLog honest.blocks (family.log ++ change.entry ∷ []) (head_spot id) table))
-    same
-    (own_table head change.table family.heads
-    (λ table. TellsTheLog honest.blocks (family.log ++ change.entry ∷ []) (head_spot head) table)
-    (record { lengths = is.lengths; refs = leads_now family head change honest.blocks honest.held as_logged }))
-own_spot family head change honest is as_logged of_head (Some part) here = absurd (not_a_head (of_head == head) here)
+-- what is told of the new table and of each spot is told of each spot afterwards
+module _ (P : List LogEntry → Spot → Table → Type 0) (along : GoesAlong P) (family : FamilyState) (head : ℕ) (change : HeadChange)
+    (is : changed_head change.entry ≡ Some head) (new : P (family.log ++ change.entry ∷ []) (head_spot head) change.table)
+    (told : (spot : Spot) → IfSome (table_of spot family.heads) (λ table. P family.log spot table)) where
+  own_spot : (of_head : ℕ) (snap : Option (List ℕ)) → is_head head (spot_at of_head snap) ≡ true
+      → IfSome (table_of (spot_at of_head snap) (with_table head change.table family.heads))
+      (λ table. P (family.log ++ change.entry ∷ []) (spot_at of_head snap) table)
+  own_spot of_head None here =
+      let same : head ≡ of_head = grind (arith, nat_tests) in
+      subst
+      (λ (id : ℕ). IfSome (table_of (head_spot id) (with_table head change.table family.heads))
+      (λ table. P (family.log ++ change.entry ∷ []) (head_spot id) table))
+      same
+      (own_table head change.table family.heads (λ table. P (family.log ++ change.entry ∷ []) (head_spot head) table)
+      (along.guids (family.log ++ change.entry ∷ []) (head_spot head) 0 change.table new))
+  own_spot of_head (Some part) here = absurd (not_a_head (of_head == head) here)
 
-changed_spot : (family : FamilyState) (head : ℕ) (change : HeadChange) (honest : IsHonest family) → IsChangeOf family head change
-    → LeadsAsLogged family head change → (of_head : ℕ) (snap : Option (List ℕ))
-    → IfSome (table_of (spot_at of_head snap) (with_table head change.table family.heads))
-    (λ table. TellsTheLog honest.blocks (family.log ++ change.entry ∷ []) (spot_at of_head snap) table)
-changed_spot family head change honest is as_logged of_head snap =
-    by_space (is_head head (spot_at of_head snap))
-    (λ here. own_spot family head change honest is as_logged of_head snap here)
-    (λ other. subst
-    (λ (found : Option Table). IfSome found (λ table. TellsTheLog honest.blocks (family.log ++ change.entry ∷ []) (spot_at of_head snap) table))
-    (other_table head of_head snap change.table family.heads other)
-    (told_still honest.blocks family.log (family.log ++ change.entry ∷ []) (spot_at of_head snap) (table_of (spot_at of_head snap) family.heads)
-    (changed_keeps family.log change.entry head (spot_at of_head snap) is.of_head other) (honest.spots (spot_at of_head snap))))
+  changed_spot : (of_head : ℕ) (snap : Option (List ℕ)) → IfSome (table_of (spot_at of_head snap) (with_table head change.table family.heads))
+      (λ table. P (family.log ++ change.entry ∷ []) (spot_at of_head snap) table)
+  changed_spot of_head snap =
+      by_space (is_head head (spot_at of_head snap))
+      (λ here. own_spot of_head snap here)
+      (λ other. subst
+      (λ (found : Option Table). IfSome found (λ table. P (family.log ++ change.entry ∷ []) (spot_at of_head snap) table))
+      (other_table head of_head snap change.table family.heads other)
+      (still_told P along family.log (family.log ++ change.entry ∷ []) (spot_at of_head snap) (table_of (spot_at of_head snap) family.heads)
+      (changed_keeps family.log change.entry head (spot_at of_head snap) is other) (told (spot_at of_head snap))))
+
+  pub told-changed : (spot : Spot) → IfSome (table_of spot (with_table head change.table family.heads))
+      (λ table. P (family.log ++ change.entry ∷ []) spot table)
+  told-changed spot = changed_spot spot.head spot.snap
+
+pub IsFamily-changed : (family : FamilyState) (head : ℕ) (change : HeadChange) → IsFamily family → IsChangeOf family head change
+    → length family.log < family.room → IsFamily (with_change head change family)
+IsFamily-changed family head change kept is left =
+    IsKept-changed family.block family.room head family.heads family.log change.table change.entry kept is.table left
+    (told-changed HasLengths lengths-along family head change is.of_head is.lengths kept.lengths)
+
+-- what the new table tells
+tells_now : (family : FamilyState) (head : ℕ) (change : HeadChange) (blocks : List (List ℕ)) → family.shelf.held ≡ Some blocks
+    → LeadsAsLogged family head change → TellsTheLog blocks (family.log ++ change.entry ∷ []) (head_spot head) change.table
+tells_now family head change blocks held as_logged =
+    subst
+    (λ (shelf : Option (List (List ℕ))). IfSome shelf
+    (λ blocks. TellsTheLog blocks (family.log ++ change.entry ∷ []) (head_spot head) change.table))
+    held as_logged
 
 pub IsHonest-changed : (family : FamilyState) (head : ℕ) (change : HeadChange) → IsHonest family → IsChangeOf family head change
     → LeadsAsLogged family head change → IsHonest (with_change head change family)
@@ -122,5 +131,7 @@ IsHonest-changed family head change honest is as_logged = record {
   blocks = honest.blocks;
   placed = honest.placed;
   held = honest.held;
-  spots = λ spot. changed_spot family head change honest is as_logged spot.head spot.snap;
+  bytes = honest.bytes;
+  spots = told-changed (TellsTheLog honest.blocks) (tells-along honest.blocks) family head change is.of_head
+      (tells_now family head change honest.blocks honest.held as_logged) honest.spots;
 }

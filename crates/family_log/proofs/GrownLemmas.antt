@@ -1,5 +1,5 @@
 -- Families on a shelf that only grows.
-use Rattle.std.proofs.Common.{◌≡◌, ℕ, ◌-◌, ◌<◌, ◌≤◌, ◌^◌, Bool, true, false, List, ◌++◌, Option, Some, None, Result, Ok, IfSome, refl, ap, sym, ◌∙◌, arith}
+use Rattle.std.proofs.Common.{◌≡◌, ℕ, zero, suc, ◌-◌, ◌<◌, ◌≤◌, ◌^◌, Bool, true, false, List, [], ◌∷◌, ◌++◌, Option, Some, None, Ok, IfSome, refl, ap, sym, ◌∙◌, arith}
 use Rattle.std.specs.Prelude.{nat_lt}
 use Rattle.std.specs.Option.{option_map, option_map_or}
 use Rattle.std.proofs.lemmas.Bool.Decides.{nat_tests}
@@ -7,7 +7,7 @@ use Rattle.shelf_store.specs.ShelfState.{ShelfState}
 use Rattle.indirect_macs.specs.declared.refs.BlockRef.{BlockRef}
 use Rattle.indirect_macs.specs.Walk.{walk}
 use Rattle.indirect_macs.specs.Runs.{Run, walk_to}
-use Rattle.indirect_macs.specs.Trees.{tree_before}
+use Rattle.indirect_macs.specs.Trees.{HoldsBytes, tree_before}
 use Rattle.indirect_macs.proofs.Growth.{walk-grown}
 use Rattle.family_log.specs.declared.table.Table.{Table}
 use Rattle.family_log.specs.declared.table.TableRow.{TableRow}
@@ -16,7 +16,7 @@ use Rattle.family_log.specs.declared.entry.LogEntry.{LogEntry}
 use Rattle.family_log.specs.Tables.{row_of}
 use Rattle.family_log.specs.Log.{last_ref}
 use Rattle.family_log.specs.Model.{FamilyState, table_of}
-use Rattle.family_log.specs.Honest.{HasGrown, IsHonest, TellsTheLog, leads, row_leads}
+use Rattle.family_log.specs.Honest.{HasGrown, IsHonest, TellsTheLog, row_leads}
 
 by_space : {P : Type 0} (b : Bool) → (b ≡ true → P) → (b ≡ false → P) → P
 by_space true yes_case no_case = yes_case refl
@@ -66,9 +66,9 @@ leads_still blocks more record_size index (Some row) found is = row_leads-grown 
 pub tells-grown : (blocks more : List (List ℕ)) (log : List LogEntry) (spot : Spot) (table : Table)
     → TellsTheLog blocks log spot table → TellsTheLog (blocks ++ more) log spot table
 tells-grown blocks more log spot table tells = record {
-  lengths = tells.lengths;
   refs = λ object index. leads_still blocks more table.block index (row_of object table) (last_ref table.block log spot object index)
       (tells.refs object index);
+  ends = tells.ends;
 }
 
 some_grown : (blocks more : List (List ℕ)) (log : List LogEntry) (spot : Spot) (found : Option Table)
@@ -76,11 +76,18 @@ some_grown : (blocks more : List (List ℕ)) (log : List LogEntry) (spot : Spot)
 some_grown blocks more log spot None tells = tt
 some_grown blocks more log spot (Some table) tells = tells-grown blocks more log spot table tells
 
+holds-append : (blocks more : List (List ℕ)) → HoldsBytes blocks → HoldsBytes more → HoldsBytes (blocks ++ more)
+holds-append [] more left right address block is = right address block is
+holds-append (first ∷ blocks) more left right zero block is = left zero block is
+holds-append (first ∷ blocks) more left right (suc address) block is =
+    holds-append blocks more (λ k b there. left (suc k) b there) right address block is
+
 pub honest-grown : (family : FamilyState) (more : List (List ℕ)) (shelf : ShelfState) → IsHonest family → HasGrown more family.shelf shelf
-    → IsHonest (record family { shelf = shelf })
-honest-grown family more shelf honest grown = record {
+    → HoldsBytes more → IsHonest (record family { shelf = shelf })
+honest-grown family more shelf honest grown bytes = record {
   blocks = honest.blocks ++ more;
   placed = grown.0 ∙ ap (option_map (λ blocks. blocks ++ more)) honest.placed;
   held = grown.1 ∙ ap (option_map (λ blocks. blocks ++ more)) honest.held;
+  bytes = holds-append honest.blocks more honest.bytes bytes;
   spots = λ spot. some_grown honest.blocks more family.log spot (table_of spot family.heads) (honest.spots spot);
 }

@@ -8,11 +8,12 @@ use Rattle.std.proofs.lemmas.Bool.Decides.{nat_tests}
 use Rattle.std.proofs.lemmas.List.Elements.{All-head, All-tail, All-cons}
 use Rattle.dataset_tree.specs.declared.refusal.Refusal.TheVariants.{NoHead, Full}
 use Rattle.family_log.specs.declared.entry.LogEntry.{LogEntry}
+use Rattle.family_log.specs.declared.entry.Spot.{Spot}
 use Rattle.family_log.specs.declared.table.Table.{Table}
 use Rattle.family_log.specs.declared.head.Head.{Head}
 use Rattle.family_log.specs.Tables.{IsRecordSize, IsTable}
 use Rattle.family_log.specs.declared.head.TheConstants.{MAX_SNAPSHOTS}
-use Rattle.family_log.specs.Model.{FamilyState, IsHead, IsKept, head_of, snapshot_count}
+use Rattle.family_log.specs.Model.{FamilyState, HasLengths, IsHead, IsKept, head_of, snapshot_count, table_of}
 use Rattle.family_log.specs.Calls.{given, new_place, with_head, with_table}
 
 pub with_head-at : (id : ℕ) (change : Head → Head) (heads : List Head) (at : ℕ) (head : Head) → at < length heads
@@ -135,8 +136,10 @@ with_head-count id change (head ∷ heads) more adds =
 
 pub IsKept-with_head : (block room id : ℕ) (change : Head → Head) (heads : List Head) (log later : List LogEntry) → IsKept block room heads log
     → ((head : Head) → (change head).id ≡ head.id) → IfSome (head_of id heads) (λ head. IsHead block (change head))
-    → snapshot_count (with_head id change heads) ≤ MAX_SNAPSHOTS → length later ≤ room → IsKept block room (with_head id change heads) later
-IsKept-with_head block room id change heads log later kept keeps is few left = record {
+    → snapshot_count (with_head id change heads) ≤ MAX_SNAPSHOTS → length later ≤ room
+    → ((spot : Spot) → IfSome (table_of spot (with_head id change heads)) (λ table. HasLengths later spot table))
+    → IsKept block room (with_head id change heads) later
+IsKept-with_head block room id change heads log later kept keeps is few left lengths = record {
   record_size = kept.record_size;
   room_least = kept.room_least;
   room_most = kept.room_most;
@@ -145,6 +148,7 @@ IsKept-with_head block room id change heads log later kept keeps is few left = r
   apart = λ i j d before within same. kept.apart i j d before (omega (arith, within, with_head-length id change heads))
       (sym (with_head-id id change heads i d keeps) ∙ same ∙ with_head-id id change heads j d keeps);
   few_snapshots = few;
+  lengths = lengths;
 }
 
 given_all : (record_size : ℕ) (table : Table) (found : Option Head) → IsTable record_size table → IfSome found (IsHead record_size)
@@ -157,14 +161,16 @@ one_longer log entry room left = omega (arith, length-append log (entry ∷ []))
 
 -- what the type keeps is kept by a change of a head
 pub IsKept-changed : (block room id : ℕ) (heads : List Head) (log : List LogEntry) (table : Table) (entry : LogEntry) → IsKept block room heads log
-    → IsTable block table → length log < room → IsKept block room (with_table id table heads) (log ++ entry ∷ [])
-IsKept-changed block room id heads log table entry kept is left =
+    → IsTable block table → length log < room
+    → ((spot : Spot) → IfSome (table_of spot (with_table id table heads)) (λ table. HasLengths (log ++ entry ∷ []) spot table))
+    → IsKept block room (with_table id table heads) (log ++ entry ∷ [])
+IsKept-changed block room id heads log table entry kept is left lengths =
     let count : snapshot_count (with_table id table heads) ≤ snapshot_count heads + 0 =
     with_head-count id (given table) heads 0 (λ head. omega arith) in
     let few : snapshot_count heads ≤ MAX_SNAPSHOTS = kept.few_snapshots in
     IsKept-with_head block room id (given table) heads log (log ++ entry ∷ []) kept (λ head. refl)
     (given_all block table (head_of id heads) is (found_has (IsHead block) id heads kept.tables)) (omega arith)
-    (one_longer log entry room left)
+    (one_longer log entry room left) lengths
 
 -- a family that has a place for a new entry has room for it
 pub room_left : (family : FamilyState) (head place : ℕ) → new_place family head ≡ Ok place → length family.log < family.room

@@ -1,5 +1,5 @@
 -- A fresh family stands on an honest shelf.
-use Rattle.std.proofs.Common.{◌≡◌, ℕ, Bool, true, false, List, [], ◌∷◌, ◌++◌, Option, Some, None, Ok, IfSome, refl, ap, sym, ◌∙◌, subst, arith}
+use Rattle.std.proofs.Common.{◌≡◌, ℕ, Bool, true, false, List, [], ◌∷◌, ◌++◌, length, length-append, ◌<◌, Option, Some, None, Ok, IfSome, refl, ap, sym, ◌∙◌, subst, arith}
 use Rattle.std.specs.Prelude.{◌==◌, IsTrue, nat_lt, nat_le}
 use Rattle.std.specs.Option.{option_flatten}
 use Rattle.std.proofs.lemmas.Bool.Decides.{nat_tests}
@@ -7,21 +7,26 @@ use Rattle.indirect_macs.specs.Walk.{walk}
 use Rattle.indirect_macs.specs.Runs.{walk_to}
 use Rattle.salt_rotation.specs.SaltState.{SaltState}
 use Rattle.family_log.specs.declared.table.Table.{Table}
+use Rattle.family_log.specs.declared.head.Head.{Head}
 use Rattle.family_log.specs.declared.entry.Spot.{Spot}
 use Rattle.family_log.specs.declared.entry.LogEntry.{LogEntry}
 use Rattle.family_log.specs.declared.entry.LogEntry.TheVariants.{Make}
 use Rattle.family_log.specs.Tables.{blocks_of, fresh_table, length_in}
 use Rattle.family_log.specs.Log.{KeepsLast, head_spot, length_said, ref_in, last_ref, last_length, newest, is_head}
-use Rattle.family_log.specs.Model.{FamilyState, fresh_family, table_of}
+use Rattle.family_log.specs.Model.{FamilyState, HasLengths, IsFamily, fresh_family, table_of}
 use Rattle.family_log.specs.declared.entry.ReadNote.{ReadNote}
 use Rattle.family_log.specs.Noted.{noted}
 use Rattle.family_log.specs.Calls.{with_entry}
 use Rattle.family_log.proofs.LogLemmas.{newest-noted}
+use Rattle.family_log.proofs.ToldLemmas.{GoesAlong, lengths-along, still_told, tells-along}
 use Rattle.family_log.specs.Honest.{IsHonest, TellsTheLog, leads}
 
 by_space : {P : Type 0} (b : Bool) → (b ≡ true → P) → (b ≡ false → P) → P
 by_space true yes_case no_case = yes_case refl
 by_space false yes_case no_case = no_case refl
+
+none_is_some : {X : Type 0} {x : X} → None ≡ Some x → ⊥
+none_is_some e = cc
 
 -- the log of a fresh head
 abbrev pub fresh_log : ℕ → List LogEntry
@@ -52,22 +57,9 @@ fresh_leads record_size portable object index =
 fresh_tells : (head record_size : ℕ) (portable : List ℕ) (spot : Spot) → is_head head spot ≡ true
     → TellsTheLog [] (fresh_log head) spot (fresh_table record_size portable)
 fresh_tells head record_size portable spot here = record {
-  lengths = λ object. fresh_length head object record_size portable spot here;
   refs = λ object index. fresh_leads record_size portable object index ∙ ap Ok (sym (fresh_ref record_size head object index spot here));
+  ends = λ object index past. fresh_ref record_size head object index spot here;
 }
-
--- what a table tells of a spot it tells of each spot that is read as that one
-pub tells-kept : (blocks : List (List ℕ)) (log later : List LogEntry) (from spot : Spot) (table : Table) → KeepsLast log from later spot
-    → TellsTheLog blocks log from table → TellsTheLog blocks later spot table
-tells-kept blocks log later from spot table kept tells = record {
-  lengths = λ object. tells.lengths object ∙ sym (kept.lengths object);
-  refs = λ object index. tells.refs object index ∙ ap Ok (sym (kept.refs table.block object index));
-}
-
-pub told_still : (blocks : List (List ℕ)) (log later : List LogEntry) (spot : Spot) (found : Option Table) → KeepsLast log spot later spot
-    → IfSome found (λ table. TellsTheLog blocks log spot table) → IfSome found (λ table. TellsTheLog blocks later spot table)
-told_still blocks log later spot None kept tells = tt
-told_still blocks log later spot (Some table) kept tells = tells-kept blocks log later spot spot table kept tells
 
 noted_keeps : (log : List LogEntry) (of_note spot : Spot) (what : ReadNote) → KeepsLast log spot (log ++ noted of_note what ∷ []) spot
 noted_keeps log of_note spot what = record {
@@ -75,18 +67,27 @@ noted_keeps log of_note spot what = record {
   refs = λ record_size object index. ap option_flatten (newest-noted (ref_in record_size object index) spot of_note what log);
 }
 
--- a fresh head, found or not
-fresh_spot : (head record_size : ℕ) (portable : List ℕ) (of_head : ℕ) (snap : Option (List ℕ))
+abbrev fresh_heads : (head record_size : ℕ) → (portable : List ℕ) → List Head
+fresh_heads head record_size portable = record { id = head; table = fresh_table record_size portable; parts = []; tables = [] } ∷ []
+
+-- what is told of the table of a fresh head is told of each spot
+fresh_told : (P : Spot → Table → Type 0) (head record_size : ℕ) (portable : List ℕ)
+    → ((spot : Spot) → is_head head spot ≡ true → P spot (fresh_table record_size portable)) → (of_head : ℕ) (snap : Option (List ℕ))
     → let spot : Spot = record { head = of_head; snap = snap } in
-    IfSome (table_of spot (record { id = head; table = fresh_table record_size portable; parts = []; tables = [] } ∷ []))
-    (λ table. TellsTheLog [] (fresh_log head) spot table)
-fresh_spot head record_size portable of_head None =
+    IfSome (table_of spot (fresh_heads head record_size portable)) (λ table. P spot table)
+fresh_told P head record_size portable told of_head None =
     by_space (head == of_head)
-    (λ found. let here : (of_head == head) ≡ true = grind (arith, nat_tests) in
-    rw found (fresh_tells head record_size portable (head_spot of_head) (rw here refl)))
+    (λ found. let here : (of_head == head) ≡ true = grind (arith, nat_tests) in rw found (told (head_spot of_head) (rw here refl)))
     (λ other. rw other tt)
-fresh_spot head record_size portable of_head (Some part) =
+fresh_told P head record_size portable told of_head (Some part) =
     by_space (head == of_head) (λ found. rw found tt) (λ other. rw other tt)
+
+-- the table of a fresh head has the lengths that its log gives
+pub fresh_lengths : (head record_size : ℕ) (portable : List ℕ) (spot : Spot)
+    → IfSome (table_of spot (fresh_heads head record_size portable)) (λ table. HasLengths (fresh_log head) spot table)
+fresh_lengths head record_size portable spot =
+    fresh_told (HasLengths (fresh_log head)) head record_size portable
+    (λ of_head here. λ object. fresh_length head object record_size portable of_head here) spot.head spot.snap
 
 -- a fresh family stands on an honest shelf
 pub fresh_family-is_honest : (guid block : ℕ) (salts : SaltState) (room head : ℕ) (portable : List ℕ)
@@ -95,7 +96,9 @@ fresh_family-is_honest guid block salts room head portable = record {
   blocks = [];
   placed = refl;
   held = refl;
-  spots = λ spot. fresh_spot head block portable spot.head spot.snap;
+  bytes = λ address stored is. absurd (none_is_some is);
+  spots = λ spot. fresh_told (TellsTheLog [] (fresh_log head)) head block portable (λ of_head here. fresh_tells head block portable of_head here)
+      spot.head spot.snap;
 }
 
 false_is_true : false ≡ true → ⊥
@@ -109,11 +112,30 @@ fresh_is_honest true guid block salts room head portable family is told =
 fresh_is_honest false guid block salts room head portable family is told = absurd (false_is_true told)
 
 -- a note keeps what heads and snapshots have
+pub told-noted : (P : List LogEntry → Spot → Table → Type 0) → GoesAlong P → (heads : List Head) (log : List LogEntry) (of_note : Spot) (what : ReadNote)
+    → ((spot : Spot) → IfSome (table_of spot heads) (λ table. P log spot table))
+    → (spot : Spot) → IfSome (table_of spot heads) (λ table. P (log ++ noted of_note what ∷ []) spot table)
+told-noted P along heads log of_note what told spot =
+    still_told P along log (log ++ noted of_note what ∷ []) spot (table_of spot heads) (noted_keeps log of_note spot what) (told spot)
+
 pub IsHonest-noted : (family : FamilyState) (spot : Spot) (what : ReadNote) → IsHonest family → IsHonest (with_entry (noted spot what) family)
 IsHonest-noted family of_note what honest = record {
   blocks = honest.blocks;
   placed = honest.placed;
   held = honest.held;
-  spots = λ spot. told_still honest.blocks family.log (family.log ++ noted of_note what ∷ []) spot (table_of spot family.heads)
-      (noted_keeps family.log of_note spot what) (honest.spots spot);
+  bytes = honest.bytes;
+  spots = told-noted (TellsTheLog honest.blocks) (tells-along honest.blocks) family.heads family.log of_note what honest.spots;
+}
+
+pub IsFamily-noted : (family : FamilyState) (spot : Spot) (what : ReadNote) → IsFamily family → length family.log < family.room
+    → IsFamily (with_entry (noted spot what) family)
+IsFamily-noted family of_note what kept left = record {
+  record_size = kept.record_size;
+  room_least = kept.room_least;
+  room_most = kept.room_most;
+  in_room = omega (arith, length-append family.log (noted of_note what ∷ []));
+  tables = kept.tables;
+  apart = kept.apart;
+  few_snapshots = kept.few_snapshots;
+  lengths = told-noted HasLengths lengths-along family.heads family.log of_note what kept.lengths;
 }

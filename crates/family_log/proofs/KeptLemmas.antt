@@ -1,10 +1,10 @@
 -- What a family's type keeps where snapshots, clones and heads come and go, and honest shelves then.
-use Rattle.std.proofs.Common.{◌≡◌, ◌≢◌, ℕ, ◌+◌, ◌<◌, ◌≤◌, zero, suc, Bool, true, false, not, List, [], ◌∷◌, ◌++◌, length, length-append, get_or, Option, Some, None, Ok, IfSome, refl, ap, sym, ◌∙◌, subst, arith}
+use Rattle.std.proofs.Common.{◌≡◌, ◌≢◌, ℕ, ◌+◌, ◌<◌, ◌≤◌, zero, suc, Bool, true, false, not, List, [], ◌∷◌, ◌++◌, length, length-append, get_or, Option, Some, None, IfSome, refl, ap, sym, subst, arith}
 use Rattle.std.specs.Prelude.{◌==◌, is_none}
-use Rattle.std.specs.List.{All, AllPairs, filter, position, slice_get}
-use Rattle.std.specs.Option.{option_and_then, option_map, option_map_or}
+use Rattle.std.specs.List.{All, filter, position, slice_get}
+use Rattle.std.specs.Option.{option_and_then, option_map_or}
 use Rattle.std.specs.Str.{bytes_eq}
-use Rattle.std.proofs.lemmas.Bool.Decides.{nat_tests, Decides-eqb}
+use Rattle.std.proofs.lemmas.Bool.Decides.{Decides-eqb}
 use Rattle.std.proofs.lemmas.List.Elements.{All-append, All-filter}
 use Rattle.std.proofs.lemmas.List.Kept.{AllPairs-filter}
 use Rattle.std.proofs.lemmas.List.Quantifiers.{all_pairs_push}
@@ -14,17 +14,16 @@ use Rattle.family_log.specs.declared.head.Head.{Head}
 use Rattle.family_log.specs.declared.head.TheConstants.{MAX_SNAPSHOTS}
 use Rattle.family_log.specs.declared.entry.Spot.{Spot}
 use Rattle.family_log.specs.declared.entry.LogEntry.{LogEntry}
-use Rattle.family_log.specs.declared.entry.LogEntry.TheVariants.{Clone}
+use Rattle.family_log.specs.declared.entry.LogEntry.TheVariants.{Clone, Snapshot}
 use Rattle.family_log.specs.Tables.{IsTable}
-use Rattle.family_log.specs.Log.{KeepsLast, head_spot, snap_spot}
-use Rattle.family_log.specs.Model.{FamilyState, IsFamily, IsHead, IsKept, head_of, snapshot_count, table_in, table_of}
+use Rattle.family_log.specs.Model.{FamilyState, HasLengths, IsFamily, IsHead, IsKept, head_of, snapshot_count, table_in, table_of}
 use Rattle.family_log.specs.Calls.{with_head}
 use Rattle.family_log.specs.Honest.{IsHonest, TellsTheLog}
-use Rattle.family_log.specs.Snapshots.{KeepsSpot, clone_added, clone_of, has_part, has_snapshot, head_removed, same_spot, snapshot_added, snapshot_removed, with_guid, with_snapshot, without_place, without_snapshot}
+use Rattle.family_log.specs.Snapshots.{clone_added, clone_of, has_part, has_snapshot, head_removed, snapshot_added, snapshot_removed, with_snapshot, without_snapshot}
 use Rattle.family_log.proofs.HeadLemmas.{IsKept-with_head, count-cons, found_has, with_head-count}
-use Rattle.family_log.proofs.HonestLemmas.{told_still}
 use Rattle.family_log.proofs.SnapLemmas.{IsHead-with_snapshot, IsHead-without_snapshot, count-added, count-removed}
-use Rattle.family_log.proofs.SpotLemmas.{clone-made, clone-others, head-gone, head-others, id_stays, kept-clone, kept-snapshot, removed-gone, removed-others, same_spot-is, snapshot-made, snapshot-others}
+use Rattle.family_log.proofs.SpotLemmas.{id_stays}
+use Rattle.family_log.proofs.ToldLemmas.{lengths-along, tells-along, told-clone, told-removed, told-snapshot, told-without_head}
 
 by_space : {P : Type 0} (b : Bool) → (b ≡ true → P) → (b ≡ false → P) → P
 by_space true yes_case no_case = yes_case refl
@@ -44,29 +43,29 @@ added_head : (record_size guid : ℕ) (part : List ℕ) (found : Option Head) �
 added_head record_size guid part None kept none = tt
 added_head record_size guid part (Some head) kept none = IsHead-with_snapshot record_size part guid head kept none
 
-pub IsKept-snapshot : (block room id guid : ℕ) (part : List ℕ) (heads : List Head) (log : List LogEntry) (entry : LogEntry) → IsKept block room heads log
-    → has_snapshot id part heads ≡ false → snapshot_count heads < MAX_SNAPSHOTS → length log < room
-    → IsKept block room (with_head id (with_snapshot part guid) heads) (log ++ entry ∷ [])
-IsKept-snapshot block room id guid part heads log entry kept none few left =
-    let count : snapshot_count (with_head id (with_snapshot part guid) heads) ≤ snapshot_count heads + 1 =
-    with_head-count id (with_snapshot part guid) heads 1 (λ head. count-added part guid head) in
-    IsKept-with_head block room id (with_snapshot part guid) heads log (log ++ entry ∷ []) kept (λ head. refl)
-    (added_head block guid part (head_of id heads) (found_has (IsHead block) id heads kept.tables) none) (omega arith)
-    (one_longer log entry room left)
+pub IsFamily-snapshot : (family : FamilyState) (id : ℕ) (part : List ℕ) (guid : ℕ) → IsFamily family → has_snapshot id part family.heads ≡ false
+    → snapshot_count family.heads < MAX_SNAPSHOTS → length family.log < family.room → IsFamily (snapshot_added id part guid family)
+IsFamily-snapshot family id part guid kept none few left =
+    let count : snapshot_count (with_head id (with_snapshot part guid) family.heads) ≤ snapshot_count family.heads + 1 =
+    with_head-count id (with_snapshot part guid) family.heads 1 (λ head. count-added part guid head) in
+    IsKept-with_head family.block family.room id (with_snapshot part guid) family.heads family.log (family.log ++ Snapshot id part ∷ []) kept (λ head. refl)
+    (added_head family.block guid part (head_of id family.heads) (found_has (IsHead family.block) id family.heads kept.tables) none) (omega arith)
+    (one_longer family.log (Snapshot id part) family.room left)
+    (told-snapshot HasLengths lengths-along family kept.lengths id part guid kept none)
 
 removed_head : (record_size : ℕ) (part : List ℕ) (found : Option Head) → IfSome found (IsHead record_size)
     → IfSome found (λ (head : Head). IsHead record_size (without_snapshot part head))
 removed_head record_size part None kept = tt
 removed_head record_size part (Some head) kept = IsHead-without_snapshot record_size part head kept
 
-pub IsKept-removed : (block room id : ℕ) (part : List ℕ) (heads : List Head) (log : List LogEntry) → IsKept block room heads log
-    → IsKept block room (with_head id (without_snapshot part) heads) log
-IsKept-removed block room id part heads log kept =
-    let count : snapshot_count (with_head id (without_snapshot part) heads) ≤ snapshot_count heads + 0 =
-    with_head-count id (without_snapshot part) heads 0 (λ head. count-removed part head) in
-    let few : snapshot_count heads ≤ MAX_SNAPSHOTS = kept.few_snapshots in
-    IsKept-with_head block room id (without_snapshot part) heads log log kept (λ head. id_stays part head)
-    (removed_head block part (head_of id heads) (found_has (IsHead block) id heads kept.tables)) (omega arith) kept.in_room
+pub IsFamily-removed : (family : FamilyState) (id : ℕ) (part : List ℕ) → IsFamily family → IsFamily (snapshot_removed id part family)
+IsFamily-removed family id part kept =
+    let count : snapshot_count (with_head id (without_snapshot part) family.heads) ≤ snapshot_count family.heads + 0 =
+    with_head-count id (without_snapshot part) family.heads 0 (λ head. count-removed part head) in
+    let few : snapshot_count family.heads ≤ MAX_SNAPSHOTS = kept.few_snapshots in
+    IsKept-with_head family.block family.room id (without_snapshot part) family.heads family.log family.log kept (λ head. id_stays part head)
+    (removed_head family.block part (head_of id family.heads) (found_has (IsHead family.block) id family.heads kept.tables)) (omega arith) kept.in_room
+    (told-removed HasLengths lengths-along family kept.lengths id part kept)
 
 dropped : (id : ℕ) (head : Head) (heads : List Head) → (head.id == id) ≡ true
     → filter (λ (other : Head). not (other.id == id)) (head ∷ heads) ≡ filter (λ (other : Head). not (other.id == id)) heads
@@ -87,19 +86,19 @@ filtered_count id (head ∷ heads) =
     (λ found. subst (λ (n : ℕ). n ≤ snapshot_count (head ∷ heads)) (ap snapshot_count (sym (dropped id head heads found))) (omega arith))
     (λ apart. subst (λ (n : ℕ). n ≤ snapshot_count (head ∷ heads)) (ap snapshot_count (sym (stays id head heads apart))) (omega arith))
 
-pub IsKept-without_head : (block room id : ℕ) (heads : List Head) (log : List LogEntry) → IsKept block room heads log
-    → IsKept block room (filter (λ head. not (head.id == id)) heads) log
-IsKept-without_head block room id heads log kept =
-    let few : snapshot_count heads ≤ MAX_SNAPSHOTS = kept.few_snapshots in
-    let count : snapshot_count (filter (λ head. not (head.id == id)) heads) ≤ snapshot_count heads = filtered_count id heads in
+pub IsFamily-without_head : (family : FamilyState) (id : ℕ) → IsFamily family → IsFamily (head_removed id family)
+IsFamily-without_head family id kept =
+    let few : snapshot_count family.heads ≤ MAX_SNAPSHOTS = kept.few_snapshots in
+    let count : snapshot_count (filter (λ head. not (head.id == id)) family.heads) ≤ snapshot_count family.heads = filtered_count id family.heads in
     record {
       record_size = kept.record_size;
       room_least = kept.room_least;
       room_most = kept.room_most;
       in_room = kept.in_room;
-      tables = All-filter (λ (head : Head). not (head.id == id)) (IsHead block) heads kept.tables;
-      apart = AllPairs-filter (λ (earlier later : Head). earlier.id ≢ later.id) (λ (head : Head). not (head.id == id)) heads kept.apart;
+      tables = All-filter (λ (head : Head). not (head.id == id)) (IsHead family.block) family.heads kept.tables;
+      apart = AllPairs-filter (λ (earlier later : Head). earlier.id ≢ later.id) (λ (head : Head). not (head.id == id)) family.heads kept.apart;
       few_snapshots = omega arith;
+      lengths = told-without_head HasLengths lengths-along family kept.lengths id;
     }
 
 clone_of-is_head : (record_size id : ℕ) (table : Table) → IsTable record_size table → IsHead record_size (clone_of id table)
@@ -123,25 +122,6 @@ absent_apart id (head ∷ heads) none (suc k) d within same =
 only_clone : (record_size id : ℕ) (table : Table) → IsTable record_size table → All (IsHead record_size) (clone_of id table ∷ [])
 only_clone record_size id table is zero d within = clone_of-is_head record_size id table is
 only_clone record_size id table is (suc k) d within = absurd (omega arith)
-
-pub IsKept-clone : (block room id : ℕ) (heads : List Head) (log : List LogEntry) (entry : LogEntry) (table : Table) → IsKept block room heads log
-    → IsTable block table → is_none (head_of id heads) ≡ true → length log < room
-    → IsKept block room (heads ++ clone_of id table ∷ []) (log ++ entry ∷ [])
-IsKept-clone block room id heads log entry table kept is none left =
-    let few : snapshot_count heads ≤ MAX_SNAPSHOTS = kept.few_snapshots in
-    let count : snapshot_count (heads ++ clone_of id table ∷ []) ≡ snapshot_count heads + snapshot_count (clone_of id table ∷ []) =
-    sum_by-append (λ (head : Head). length head.parts) heads (clone_of id table ∷ []) in
-    let one : snapshot_count (clone_of id table ∷ []) ≡ 0 = refl in
-    record {
-      record_size = kept.record_size;
-      room_least = kept.room_least;
-      room_most = kept.room_most;
-      in_room = one_longer log entry room left;
-      tables = All-append (IsHead block) heads (clone_of id table ∷ []) kept.tables (only_clone block id table is);
-      apart = all_pairs_push (λ (earlier later : Head). earlier.id ≢ later.id) heads (clone_of id table) kept.apart
-          (λ k d within same. absent_apart id heads none k d within same);
-      few_snapshots = omega arith;
-    }
 
 got_is : (P : Table → Type 0) (tables : List Table) (at : ℕ) → All P tables → IfSome (slice_get tables at) P
 got_is P [] at all = tt
@@ -174,29 +154,35 @@ pub clone_built : (family : FamilyState) (from : Spot) (id : ℕ) (table : Table
     → record family { heads = family.heads ++ clone_of id table ∷ []; log = family.log ++ Clone from id ∷ [] } ≡ clone_added from id family
 clone_built family from id table is = rw (sym is) refl
 
+cloned_lengths : (family : FamilyState) (from : Spot) (id : ℕ) (table : Table) → IsFamily family → Some table ≡ table_of from family.heads
+    → is_none (head_of id family.heads) ≡ true
+    → (spot : Spot) → IfSome (table_of spot (family.heads ++ clone_of id table ∷ [])) (λ table. HasLengths (family.log ++ Clone from id ∷ []) spot table)
+cloned_lengths family from id table kept is none spot =
+    subst (λ (later : FamilyState). IfSome (table_of spot later.heads) (λ table. HasLengths later.log spot table))
+    (sym (clone_built family from id table is)) (told-clone HasLengths lengths-along family kept.lengths from id none spot)
+
+pub IsKept-clone : (family : FamilyState) (from : Spot) (id : ℕ) (table : Table) → IsFamily family → Some table ≡ table_of from family.heads
+    → is_none (head_of id family.heads) ≡ true → length family.log < family.room
+    → IsKept family.block family.room (family.heads ++ clone_of id table ∷ []) (family.log ++ Clone from id ∷ [])
+IsKept-clone family from id table kept is none left =
+    let few : snapshot_count family.heads ≤ MAX_SNAPSHOTS = kept.few_snapshots in
+    let count : snapshot_count (family.heads ++ clone_of id table ∷ []) ≡ snapshot_count family.heads + snapshot_count (clone_of id table ∷ []) =
+    sum_by-append (λ (head : Head). length head.parts) family.heads (clone_of id table ∷ []) in
+    let one : snapshot_count (clone_of id table ∷ []) ≡ 0 = refl in
+    let has_form = table_of-is family.block family.room from family.heads family.log table kept is in
+    record {
+      record_size = kept.record_size;
+      room_least = kept.room_least;
+      room_most = kept.room_most;
+      in_room = one_longer family.log (Clone from id) family.room left;
+      tables = All-append (IsHead family.block) family.heads (clone_of id table ∷ []) kept.tables (only_clone family.block id table has_form);
+      apart = all_pairs_push (λ (earlier later : Head). earlier.id ≢ later.id) family.heads (clone_of id table) kept.apart
+          (λ k d within same. absent_apart id family.heads none k d within same);
+      few_snapshots = omega arith;
+      lengths = cloned_lengths family from id table kept is none;
+    }
+
 -- ---- honest shelves
-
--- what a spot keeps tells what it told
-kept_tells : (blocks : List (List ℕ)) (family later : FamilyState) (spot : Spot) → KeepsSpot family later spot
-    → IfSome (table_of spot family.heads) (λ table. TellsTheLog blocks family.log spot table)
-    → IfSome (table_of spot later.heads) (λ table. TellsTheLog blocks later.log spot table)
-kept_tells blocks family later spot keeps tells =
-    subst (λ (found : Option Table). IfSome found (λ table. TellsTheLog blocks later.log spot table)) (sym keeps.table)
-    (told_still blocks family.log later.log spot (table_of spot family.heads) keeps.last tells)
-
--- and so does what is made of another spot's table
-made_tells : (blocks : List (List ℕ)) (log later : List LogEntry) (from spot : Spot) (guid : ℕ) (found : Option Table) → KeepsLast log from later spot
-    → IfSome found (λ table. TellsTheLog blocks log from table)
-    → IfSome (option_map (with_guid guid) found) (λ table. TellsTheLog blocks later spot table)
-made_tells blocks log later from spot guid None keeps tells = tt
-made_tells blocks log later from spot guid (Some table) keeps tells = record {
-  lengths = λ object. tells.lengths object ∙ sym (keeps.lengths object);
-  refs = λ object index. tells.refs object index ∙ ap Ok (sym (keeps.refs table.block object index));
-}
-
-none_tells : (blocks : List (List ℕ)) (log : List LogEntry) (spot : Spot) (found : Option Table) → found ≡ None
-    → IfSome found (λ table. TellsTheLog blocks log spot table)
-none_tells blocks log spot found is = rw is tt
 
 pub IsHonest-snapshot : (family : FamilyState) (id : ℕ) (part : List ℕ) (guid : ℕ) → IsFamily family → has_snapshot id part family.heads ≡ false
     → IsHonest family → IsHonest (snapshot_added id part guid family)
@@ -204,18 +190,8 @@ IsHonest-snapshot family id part guid kept none honest = record {
   blocks = honest.blocks;
   placed = honest.placed;
   held = honest.held;
-  spots = λ spot. by_space (same_spot spot (snap_spot id part))
-      (λ same. subst
-      (λ (s : Spot). IfSome (table_of s (snapshot_added id part guid family).heads)
-      (λ table. TellsTheLog honest.blocks (snapshot_added id part guid family).log s table))
-      (sym (same_spot-is spot (snap_spot id part) same))
-      (subst
-      (λ (found : Option Table). IfSome found (λ table. TellsTheLog honest.blocks (snapshot_added id part guid family).log (snap_spot id part) table))
-      (sym (snapshot-made family id part guid kept none))
-      (made_tells honest.blocks family.log (snapshot_added id part guid family).log (head_spot id) (snap_spot id part) guid
-      (table_of (head_spot id) family.heads) (kept-snapshot family.log id part) (honest.spots (head_spot id)))))
-      (λ apart. kept_tells honest.blocks family (snapshot_added id part guid family) spot
-      (snapshot-others family id part guid spot kept apart) (honest.spots spot));
+  bytes = honest.bytes;
+  spots = told-snapshot (TellsTheLog honest.blocks) (tells-along honest.blocks) family honest.spots id part guid kept none;
 }
 
 pub IsHonest-clone : (family : FamilyState) (from : Spot) (id : ℕ) → is_none (head_of id family.heads) ≡ true
@@ -224,18 +200,8 @@ IsHonest-clone family from id none honest = record {
   blocks = honest.blocks;
   placed = honest.placed;
   held = honest.held;
-  spots = λ spot. by_space (same_spot spot (head_spot id))
-      (λ same. subst
-      (λ (s : Spot). IfSome (table_of s (clone_added from id family).heads)
-      (λ table. TellsTheLog honest.blocks (clone_added from id family).log s table))
-      (sym (same_spot-is spot (head_spot id) same))
-      (subst
-      (λ (found : Option Table). IfSome found (λ table. TellsTheLog honest.blocks (clone_added from id family).log (head_spot id) table))
-      (sym (clone-made family from id none))
-      (made_tells honest.blocks family.log (clone_added from id family).log from (head_spot id) 0
-      (table_of from family.heads) (kept-clone family.log from id) (honest.spots from))))
-      (λ apart. kept_tells honest.blocks family (clone_added from id family) spot
-      (clone-others family from id spot none apart) (honest.spots spot));
+  bytes = honest.bytes;
+  spots = told-clone (TellsTheLog honest.blocks) (tells-along honest.blocks) family honest.spots from id none;
 }
 
 pub IsHonest-without_head : (family : FamilyState) (id : ℕ) → IsHonest family → IsHonest (head_removed id family)
@@ -243,9 +209,8 @@ IsHonest-without_head family id honest = record {
   blocks = honest.blocks;
   placed = honest.placed;
   held = honest.held;
-  spots = λ spot. by_space (spot.head == id)
-      (λ same. none_tells honest.blocks family.log spot (table_of spot (head_removed id family).heads) (head-gone family id spot same))
-      (λ other. kept_tells honest.blocks family (head_removed id family) spot (head-others family id spot other) (honest.spots spot));
+  bytes = honest.bytes;
+  spots = told-without_head (TellsTheLog honest.blocks) (tells-along honest.blocks) family honest.spots id;
 }
 
 pub IsHonest-removed : (family : FamilyState) (id : ℕ) (part : List ℕ) → IsFamily family → IsHonest family
@@ -254,12 +219,6 @@ IsHonest-removed family id part kept honest = record {
   blocks = honest.blocks;
   placed = honest.placed;
   held = honest.held;
-  spots = λ spot. by_space (same_spot spot (snap_spot id part))
-      (λ same. subst
-      (λ (s : Spot). IfSome (table_of s (snapshot_removed id part family).heads) (λ table. TellsTheLog honest.blocks family.log s table))
-      (sym (same_spot-is spot (snap_spot id part) same))
-      (none_tells honest.blocks family.log (snap_spot id part) (table_of (snap_spot id part) (snapshot_removed id part family).heads)
-      (removed-gone family id part kept)))
-      (λ apart. kept_tells honest.blocks family (snapshot_removed id part family) spot (removed-others family id part spot kept apart)
-      (honest.spots spot));
+  bytes = honest.bytes;
+  spots = told-removed (TellsTheLog honest.blocks) (tells-along honest.blocks) family honest.spots id part kept;
 }

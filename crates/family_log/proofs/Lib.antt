@@ -8,4 +8,5 @@ pub mod GrownLemmas
 pub mod ChangeLemmas
 pub mod SnapLemmas
 pub mod SpotLemmas
+pub mod ToldLemmas
 pub mod KeptLemmas

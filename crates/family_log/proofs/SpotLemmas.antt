@@ -1,27 +1,22 @@
 -- What spots have where snapshots, clones and heads come and go.
-use Rattle.std.proofs.Common.{◌≡◌, ◌≢◌, ℕ, ◌+◌, ◌<◌, ◌≤◌, zero, suc, Bool, true, false, ◌&&◌, not, List, [], ◌∷◌, ◌++◌, length, length-append, get_or, Option, Some, None, IfSome, refl, ap, sym, ◌∙◌, subst, arith}
-use Rattle.std.specs.Prelude.{◌==◌, if◌then◌else◌, is_none}
-use Rattle.std.specs.List.{All, AllPairs, filter, position}
+use Rattle.std.proofs.Common.{◌≡◌, ℕ, zero, suc, Bool, true, false, not, List, [], ◌∷◌, ◌++◌, get_or, Option, Some, None, IfSome, refl, ap, sym, ◌∙◌, subst, arith}
+use Rattle.std.specs.Prelude.{◌==◌, is_none}
+use Rattle.std.specs.List.{All, filter, position}
 use Rattle.std.specs.Option.{option_and_then, option_eq, option_flatten, option_map, option_map_or}
 use Rattle.std.specs.Str.{bytes_eq}
 use Rattle.std.proofs.lemmas.Bool.Decides.{nat_tests, Decides-eqb}
-use Rattle.std.proofs.lemmas.List.Elements.{All-filter, All-push}
-use Rattle.std.proofs.lemmas.List.Kept.{AllPairs-filter}
-use Rattle.std.proofs.lemmas.List.Quantifiers.{all_pairs_push}
 use Rattle.family_log.specs.declared.table.Table.{Table}
 use Rattle.family_log.specs.declared.head.Head.{Head}
-use Rattle.family_log.specs.declared.head.TheConstants.{MAX_SNAPSHOTS}
 use Rattle.family_log.specs.declared.entry.Spot.{Spot}
 use Rattle.family_log.specs.declared.entry.LogEntry.{LogEntry}
 use Rattle.family_log.specs.declared.entry.LogEntry.TheVariants.{Make, Write, Cut, Remove, Receive, Snapshot, Clone, Read, Refused}
-use Rattle.family_log.specs.Tables.{IsTable}
-use Rattle.family_log.specs.Log.{Changes, KeepsLast, Passes, head_spot, snap_spot, is_head, length_said, newest, ref_in}
-use Rattle.family_log.specs.Model.{FamilyState, IsFamily, IsHead, IsKept, head_of, snapshot_count, table_in, table_of}
+use Rattle.family_log.specs.Log.{Changes, KeepsLast, Passes, head_spot, snap_spot, is_head, length_said, ref_in}
+use Rattle.family_log.specs.Model.{FamilyState, IsFamily, IsHead, head_of, table_in, table_of}
 use Rattle.family_log.specs.Calls.{with_head}
 use Rattle.family_log.specs.Snapshots.{KeepsSpot, clone_added, clone_of, has_part, has_snapshot, head_removed, is_about, same_spot, snapshot_added, snapshot_removed, with_snapshot, without_place, without_snapshot}
 use Rattle.family_log.proofs.LogLemmas.{newest-passed, newest-snapshot, newest-clone}
-use Rattle.family_log.proofs.HeadLemmas.{count-cons, found_has}
-use Rattle.family_log.proofs.SnapLemmas.{IsHead-with_snapshot, IsHead-without_snapshot, alike, snap_table-added, snap_table-beside, snap_table-gone, snap_table-others}
+use Rattle.family_log.proofs.HeadLemmas.{found_has}
+use Rattle.family_log.proofs.SnapLemmas.{alike, snap_table-added, snap_table-beside, snap_table-gone, snap_table-others}
 
 by_space : {P : Type 0} (b : Bool) → (b ≡ true → P) → (b ≡ false → P) → P
 by_space true yes_case no_case = yes_case refl

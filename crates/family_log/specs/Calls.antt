@@ -9,9 +9,9 @@ use Rattle.family_log.specs.declared.entry.LogEntry.{LogEntry}
 use Rattle.family_log.specs.declared.family.FamilyPart.{FamilyPart}
 use Rattle.family_log.specs.declared.family.FamilyPart.TheVariants as parts
 use Rattle.family_log.specs.declared.head.Head.{Head}
-use Rattle.family_log.specs.Tables.{IsTable, length_in}
-use Rattle.family_log.specs.Log.{changed_head, head_spot, last_length}
-use Rattle.family_log.specs.Model.{FamilyState, head_of}
+use Rattle.family_log.specs.Tables.{IsTable}
+use Rattle.family_log.specs.Log.{changed_head, head_spot}
+use Rattle.family_log.specs.Model.{FamilyState, HasLengths, head_of}
 
 -- the place of a new entry of this head: at the log's end, unless there is no such head or the log has no room
 abbrev pub new_place : FamilyState → (head : ℕ) → Result ℕ Refusal
@@ -43,8 +43,7 @@ with_change head change family =
 pub record IsChangeOf (family : FamilyState) (head : ℕ) (change : HeadChange) : Type 0 where
   pub of_head : changed_head change.entry ≡ Some head
   pub table : IsTable family.block change.table
-  pub lengths : (object : ℕ) → length_in change.table object
-      ≡ last_length (family.log ++ change.entry ∷ []) (head_spot head) object
+  pub lengths : HasLengths (family.log ++ change.entry ∷ []) (head_spot head) change.table
 
 -- the snapshots of a head: the parts of their names, and their tables
 abbrev pub snapshots_of : Head → List (List ℕ) × List Table

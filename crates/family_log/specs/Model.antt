@@ -1,5 +1,5 @@
 -- What contracts see of a family, and what its type keeps.
-use Rattle.std.specs.Prelude.{ℕ, ◌≡◌, ◌≢◌, ◌==◌, ◌≤◌, Bool, List, [], ◌∷◌, length, Option, Some, None}
+use Rattle.std.specs.Prelude.{ℕ, ◌≡◌, ◌≢◌, ◌==◌, ◌≤◌, Bool, List, [], ◌∷◌, length, Option, Some, None, IfSome}
 use Rattle.std.specs.List.{All, AllPairs, find, position, slice_get, sum_by}
 use Rattle.std.specs.Option.{option_and_then}
 use Rattle.std.specs.Str.{bytes_eq}
@@ -11,7 +11,8 @@ use Rattle.family_log.specs.declared.entry.LogEntry.{LogEntry}
 use Rattle.family_log.specs.declared.entry.LogEntry.TheVariants.{Make}
 use Rattle.family_log.specs.declared.head.Head.{Head}
 use Rattle.family_log.specs.declared.head.TheConstants.{MAX_SNAPSHOTS}
-use Rattle.family_log.specs.Tables.{IsRecordSize, IsTable, fresh_table}
+use Rattle.family_log.specs.Tables.{IsRecordSize, IsTable, fresh_table, length_in}
+use Rattle.family_log.specs.Log.{last_length}
 
 -- A family: the guid of its key, its record size, how many entries its log may have, its heads, its log, its
 -- salts, and what its shelf tells. A head has its table, and its snapshots in the order they were made: the
@@ -56,8 +57,12 @@ pub record IsHead (record_size : ℕ) (head : Head) : Type 0 where
   pub paired : length head.tables ≡ length head.parts
   pub apart : AllPairs (λ earlier later. earlier ≢ later) head.parts
 
--- what the type keeps, no two heads of one dataset among it and at most 64 snapshots of all heads together,
--- whatever a borrower makes of salts and shelf
+-- the table has the objects and lengths that the log gives
+abbrev pub HasLengths : List LogEntry → Spot → Table → Type 0
+HasLengths log spot table = (object : ℕ) → length_in table object ≡ last_length log spot object
+
+-- what the type keeps, no two heads of one dataset among it, at most 64 snapshots of all heads together, and the
+-- lengths that the log gives, whatever a borrower makes of salts and shelf
 pub record IsKept (block room : ℕ) (heads : List Head) (log : List LogEntry) : Type 0 where
   pub record_size : IsRecordSize block
   pub room_least : 1 ≤ room
@@ -66,6 +71,7 @@ pub record IsKept (block room : ℕ) (heads : List Head) (log : List LogEntry) :
   pub tables : All (IsHead block) heads
   pub apart : AllPairs (λ earlier later. earlier.id ≢ later.id) heads
   pub few_snapshots : snapshot_count heads ≤ MAX_SNAPSHOTS
+  pub lengths : (spot : Spot) → IfSome (table_of spot heads) (λ table. HasLengths log spot table)
 
 abbrev pub IsFamily : FamilyState → Type 0
 IsFamily family = IsKept family.block family.room family.heads family.log

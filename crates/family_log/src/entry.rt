@@ -114,69 +114,137 @@ impl LogEntry {
                 head,
                 lengths,
                 refs,
-            } => Ok(LogEntry::Make {
-                head: *head,
-                lengths: lengths.copy()?,
-                refs: refs.copy()?,
-            }),
+            } => copied_make(*head, lengths, refs),
             LogEntry::Write {
                 head,
                 lengths,
                 refs,
-            } => Ok(LogEntry::Write {
-                head: *head,
-                lengths: lengths.copy()?,
-                refs: refs.copy()?,
-            }),
+            } => copied_write(*head, lengths, refs),
             LogEntry::Cut {
                 head,
                 lengths,
                 refs,
-            } => Ok(LogEntry::Cut {
-                head: *head,
-                lengths: lengths.copy()?,
-                refs: refs.copy()?,
-            }),
+            } => copied_cut(*head, lengths, refs),
             LogEntry::Remove {
                 head,
                 lengths,
                 refs,
-            } => Ok(LogEntry::Remove {
-                head: *head,
-                lengths: lengths.copy()?,
-                refs: refs.copy()?,
-            }),
+            } => copied_remove(*head, lengths, refs),
             LogEntry::Receive {
                 head,
                 lengths,
                 refs,
-            } => Ok(LogEntry::Receive {
-                head: *head,
-                lengths: lengths.copy()?,
-                refs: refs.copy()?,
-            }),
-            LogEntry::Snapshot { head, part } => Ok(LogEntry::Snapshot {
-                head: *head,
-                part: part.copy()?,
-            }),
-            LogEntry::Clone { from, head } => Ok(LogEntry::Clone {
-                from: from.copy()?,
-                head: *head,
-            }),
+            } => copied_receive(*head, lengths, refs),
+            LogEntry::Snapshot { head, part } => copied_snapshot(*head, part),
+            LogEntry::Clone { from, head } => copied_clone(from, *head),
             LogEntry::Read { spot } => Ok(LogEntry::Read { spot: spot.copy()? }),
             LogEntry::Refused {
                 spot,
                 why,
                 draws,
                 puts,
-            } => Ok(LogEntry::Refused {
-                spot: spot.copy()?,
-                why: *why,
-                draws: *draws,
-                puts: *puts,
-            }),
+            } => copied_refused(spot, *why, *draws, *puts),
         }
     }
+}
+
+fn copied_make(
+    head: u32,
+    lengths: &Listed<LengthAt>,
+    refs: &Listed<RefAt>,
+) -> Result<LogEntry, NoMemory>
+    ensures { IfOk result (λ entry. entry ≡ LogEntry.Make head lengths.now refs.now) }
+{
+    Ok(LogEntry::Make {
+        head,
+        lengths: lengths.copy()?,
+        refs: refs.copy()?,
+    })
+}
+
+fn copied_write(
+    head: u32,
+    lengths: &Listed<LengthAt>,
+    refs: &Listed<RefAt>,
+) -> Result<LogEntry, NoMemory>
+    ensures { IfOk result (λ entry. entry ≡ LogEntry.Write head lengths.now refs.now) }
+{
+    Ok(LogEntry::Write {
+        head,
+        lengths: lengths.copy()?,
+        refs: refs.copy()?,
+    })
+}
+
+fn copied_cut(
+    head: u32,
+    lengths: &Listed<LengthAt>,
+    refs: &Listed<RefAt>,
+) -> Result<LogEntry, NoMemory>
+    ensures { IfOk result (λ entry. entry ≡ LogEntry.Cut head lengths.now refs.now) }
+{
+    Ok(LogEntry::Cut {
+        head,
+        lengths: lengths.copy()?,
+        refs: refs.copy()?,
+    })
+}
+
+fn copied_remove(
+    head: u32,
+    lengths: &Listed<LengthAt>,
+    refs: &Listed<RefAt>,
+) -> Result<LogEntry, NoMemory>
+    ensures { IfOk result (λ entry. entry ≡ LogEntry.Remove head lengths.now refs.now) }
+{
+    Ok(LogEntry::Remove {
+        head,
+        lengths: lengths.copy()?,
+        refs: refs.copy()?,
+    })
+}
+
+fn copied_receive(
+    head: u32,
+    lengths: &Listed<LengthAt>,
+    refs: &Listed<RefAt>,
+) -> Result<LogEntry, NoMemory>
+    ensures { IfOk result (λ entry. entry ≡ LogEntry.Receive head lengths.now refs.now) }
+{
+    Ok(LogEntry::Receive {
+        head,
+        lengths: lengths.copy()?,
+        refs: refs.copy()?,
+    })
+}
+
+fn copied_snapshot(head: u32, part: &SnapPart) -> Result<LogEntry, NoMemory>
+    ensures { IfOk result (λ entry. entry ≡ LogEntry.Snapshot head part.now) }
+{
+    Ok(LogEntry::Snapshot {
+        head,
+        part: part.copy()?,
+    })
+}
+
+fn copied_clone(from: &Spot, head: u32) -> Result<LogEntry, NoMemory>
+    ensures { IfOk result (λ entry. entry ≡ LogEntry.Clone from.now head) }
+{
+    Ok(LogEntry::Clone {
+        from: from.copy()?,
+        head,
+    })
+}
+
+fn copied_refused(spot: &Spot, why: Refusal, draws: u64, puts: u32) -> Result<LogEntry, NoMemory>
+    ensures { IfOk result (λ entry. entry ≡ LogEntry.Refused spot.now why draws puts) }
+{
+    Ok(LogEntry::Refused {
+        spot: spot.copy()?,
+        why,
+        draws,
+        puts,
+    })
 }
 
 /// A change of a head: its new table, and the entry that tells it.

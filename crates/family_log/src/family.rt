@@ -60,6 +60,7 @@ impl<B: Shelf> Model for Family<B> {
 
 impl<B: Shelf> Family<B> {
     ghost use Rattle.dataset_tree.specs.Refusal.{Gives};
+    ghost use Rattle.shelf_store.specs.ShelfState.{HasToldSizes};
     ghost use Rattle.family_log.specs.Tables.{IsRecordSize};
     ghost use Rattle.family_log.specs.Log.{head_spot, last_ref};
     ghost use Rattle.family_log.specs.Model.{IsFamily, fresh_family, head_of, snapshot_count, table_of};
@@ -113,7 +114,8 @@ impl<B: Shelf> Family<B> {
     /// The entry is a Make, Write, Cut, Remove or Receive of this head. The table has the form of a
     /// table of the family's record size, and the objects and lengths that the log gives with the entry.
     /// Of the table the guid isn't kept. The family stays on an honest shelf where the new blocks are on it
-    /// already and the trees of the table lead to what the log gives with the entry.
+    /// already, the trees of the table lead to what the log gives with the entry, and the entry lists no
+    /// reference at or behind an object's end.
     ///
     /// # Errors
     ///
@@ -231,6 +233,7 @@ impl<B: Shelf> Family<B> {
     pub fn used(&self) -> (u64, u64)
         ensures draws { result.0 ≡ self.now.salts.made }
         ensures puts { result.1 ≡ length self.now.shelf.sizes }
+        ensures sizes { HasToldSizes self.now.shelf }
     {
         (self.salts.made(), self.shelf.blocks())
     }

@@ -4,7 +4,7 @@ ghost use Rattle.std.specs.List.{All};
 ghost use Rattle.shelf_store.specs.ShelfState.{ShelfState};
 ghost use Rattle.indirect_macs.specs.declared.refs.BlockRef.{BlockRef};
 ghost use Rattle.indirect_macs.specs.Runs.{Run, levels_for, walk_to};
-ghost use Rattle.indirect_macs.specs.Trees.{tree_before};
+ghost use Rattle.indirect_macs.specs.Trees.{HoldsBytes, tree_before};
 ghost use Rattle.indirect_macs.specs.Walk.{walk};
 ghost use Rattle.family_log.specs.declared.table.Table.{Table};
 ghost use Rattle.family_log.specs.declared.table.TableRow.{TableRow};
@@ -113,10 +113,10 @@ pub fn rows_lead_as_their_trees()
 {}
 
 /// A shelf that only grows keeps what tables tell of the log: what is put for new trees changes
-/// nothing of older ones. So a family stays on an honest shelf while blocks are put.
+/// nothing of older ones. So a family stays on an honest shelf while blocks of bytes are put.
 pub fn longer_shelves_stay_honest()
     ensures tables { (blocks more : List (List ℕ)) (log : List LogEntry) (spot : Spot) (table : Table)
         → TellsTheLog blocks log spot table → TellsTheLog (blocks ++ more) log spot table }
     ensures families { (family : FamilyState) (more : List (List ℕ)) (shelf : ShelfState) → IsHonest family
-        → HasGrown more family.shelf shelf → IsHonest (record family { shelf = shelf }) }
+        → HasGrown more family.shelf shelf → HoldsBytes more → IsHonest (record family { shelf = shelf }) }
 {}

@@ -1,31 +1,33 @@
 -- What is put for a run is bytes, where its references are.
-use Rattle.std.proofs.Common.{◌≡◌, ℕ, zero, suc, ◌+◌, ◌-◌, ◌*◌, ◌<◌, ◌≤◌, Bool, true, false, ◌&&◌, ◌==◌, nat_lt, nat_le, List, [], ◌∷◌, ◌++◌, length, take, drop, replicate, get_or, slice_index, refl, sym, subst, arith, Option, Some, None, if◌then◌else◌}
+use Rattle.std.proofs.Common.{◌≡◌, ℕ, zero, suc, ◌+◌, ◌-◌, ◌*◌, ◌<◌, ◌≤◌, Bool, true, false, ◌&&◌, ◌==◌, nat_lt, nat_le, List, [], ◌∷◌, ◌++◌, length, take, drop, replicate, get_or, slice_index, refl, sym, ap, subst, ◌∙◌, arith, Option, Some, None, Ok, if◌then◌else◌}
 use Rattle.std.specs.Prelude.{All, IfSome}
 use Rattle.std.specs.List.{flat_map}
 use Rattle.std.specs.Int.{w64, to_be_bytes, bytes_high_first, byte_at}
 use Rattle.sha2.specs.Sha512.{sha512, digest_bytes}
 use Rattle.std.proofs.lemmas.List.{get_or-replicate}
+use Rattle.std.proofs.lemmas.Option.{slice_get_within}
 use Rattle.std.proofs.lemmas.List.Elements.{All-head, All-tail}
 use Rattle.byte_fields.specs.LittleEndian.{little_endian_bytes}
 use Rattle.byte_fields.proofs.FieldLaws.{little_endian_bytes-lt}
 use Rattle.indirect_macs.specs.declared.refs.BlockRef.{BlockRef}
 use Rattle.indirect_macs.specs.declared.refs.NodeRef.{NodeRef}
 use Rattle.indirect_macs.specs.Entries.{block_at, node_at, block_entry, node_entry}
-use Rattle.indirect_macs.specs.Nodes.{entry_at, mac_of}
-use Rattle.indirect_macs.specs.Walk.{passed}
+use Rattle.indirect_macs.specs.Nodes.{entry_at, mac_of, node_mac}
+use Rattle.indirect_macs.specs.Walk.{fails_at, next_block, next_node, passed, slot_of, walk}
 use Rattle.indirect_macs.specs.Trees.{AreBytes, HasBytes, HoldsBytes, IsRunOn, IsTree, LosesAll, held_after, tree_after, tree_before, with_run}
 use Rattle.indirect_macs.specs.Fold.{fold_mac}
 use Rattle.indirect_macs.proofs.RunTrees.{tree_fold, run_tree}
 use Rattle.std.specs.Option.{option_map}
 use Rattle.indirect_macs.specs.Runs.{Run, Old, Made, Node, first_at, count_at, levels_for, old_of, target, new_ref, entries_at, leaf_of, inner_of, new_node, kept, is_put, puts_with, ref_with, begun, nodes_made, levels_made, puts_of}
 use Rattle.indirect_macs.proofs.Spelling.{bytes_of_part}
-use Rattle.indirect_macs.proofs.TreeFold.{passes_from}
+use Rattle.indirect_macs.proofs.RunNodes.{length-mac_of}
+use Rattle.indirect_macs.proofs.TreeFold.{goes_ok, ok_passed, passes_from}
 use Rattle.indirect_macs.proofs.RunOld.{old_node_any, old_block_any}
 use Rattle.indirect_macs.proofs.RunEntries.{all_entries, new_ref_cases}
 
 -- ---- bytes
 
-bytes_append : (xs ys : List ℕ) → AreBytes xs → AreBytes ys → AreBytes (xs ++ ys)
+pub bytes_append : (xs ys : List ℕ) → AreBytes xs → AreBytes ys → AreBytes (xs ++ ys)
 bytes_append [] ys left right i = right i
 bytes_append (x ∷ xs) ys left right zero = left zero
 bytes_append (x ∷ xs) ys left right (suc i) = bytes_append xs ys (λ k. left (suc k)) right i
@@ -98,7 +100,7 @@ read_node e fair = by_tag (slice_index e 0 == 0) _ (bytes_of_part 9 16 e fair)
 
 -- ---- blocks of a shelf
 
-holds_append : (xs ys : List (List ℕ)) → HoldsBytes xs → HoldsBytes ys → HoldsBytes (xs ++ ys)
+pub holds_append : (xs ys : List (List ℕ)) → HoldsBytes xs → HoldsBytes ys → HoldsBytes (xs ++ ys)
 holds_append [] ys left right address block is = right address block is
 holds_append (x ∷ xs) ys left right zero block is = left zero block is
 holds_append (x ∷ xs) ys left right (suc address) block is = holds_append xs ys (λ k b there. left (suc k) b there) right address block is
@@ -136,9 +138,32 @@ mac_append [] x left right (suc i) = tt
 mac_append (y ∷ xs) x left right zero = left zero
 mac_append (y ∷ xs) x left right (suc i) = mac_append xs x (λ k. left (suc k)) right i
 
+-- ---- a node that a walk went through
+
+pub passed_node : (held : List (List ℕ)) (record_size level : ℕ) (node : NodeRef) (bytes : List ℕ) → passed held record_size level node ≡ Some bytes
+    → (node.addr < length held) × (length node.mac ≡ 16) × AreBytes node.mac
+unfolding node_mac
+passed_node held record_size level node bytes is =
+    let passes = passes_from held record_size level node bytes is in (
+      slice_get_within held node.addr bytes passes.there,
+      ap length (sym passes.mac) ∙ length-mac_of level _,
+      subst AreBytes passes.mac (bytes_mac level _),
+    )
+
+pub walked_node : (held : List (List ℕ)) (record_size index below : ℕ) (node : NodeRef) (found : Option BlockRef) → walk held record_size index below (Some node) ≡ Ok found
+    → (node.addr < length held) × (length node.mac ≡ 16) × AreBytes node.mac
+unfolding walk next_block next_node
+walked_node held record_size index zero node found is =
+    let one = ok_passed (λ bytes. block_at (entry_at 1 bytes (slot_of 1 index))) (passed held record_size 1 node) (fails_at 1 index) found is in
+    passed_node held record_size 1 node one.0 one.1
+walked_node held record_size index (suc below) node found is =
+    let next = goes_ok (λ next. walk held record_size index below next) (next_node held record_size index (below + 2) node) found is in
+    let one = ok_passed (λ bytes. node_at (entry_at (below + 2) bytes (slot_of (below + 2) index))) (passed held record_size (below + 2) node) (fails_at (below + 2) index) next.0 next.1 in
+    passed_node held record_size (below + 2) node one.0 one.1
+
 -- ---- a run into a tree
 
-module _ (held : List (List ℕ)) (record_size : ℕ) (run : Run) (ready : IsRunOn held record_size run) (fair : All (λ entry. IfSome entry HasBytes) run.refs) (top : HasMac run.top) where
+module _ (held : List (List ℕ)) (record_size : ℕ) (run : Run) (levels : 1 ≤ run.levels) (holds : HoldsBytes held) (fair : All (λ entry. IfSome entry HasBytes) run.refs) (top : HasMac run.top) where
   abbrev old : Old
   old = old_of held record_size run
 
@@ -148,7 +173,7 @@ module _ (held : List (List ℕ)) (record_size : ℕ) (run : Run) (ready : IsRun
   part_bytes : (node : NodeRef) (level start n : ℕ) (bytes : List ℕ) → passed held record_size level node ≡ Some bytes → AreBytes (take n (drop start bytes))
   part_bytes node level start n bytes is =
       let passes = passes_from held record_size level node bytes is in
-      bytes_of_part start n bytes (ready.bytes node.addr bytes passes.there)
+      bytes_of_part start n bytes (holds node.addr bytes passes.there)
 
   old_mac : (level index : ℕ) → 1 ≤ level → HasMac (old.node level index)
   old_mac level index some =
@@ -157,7 +182,7 @@ module _ (held : List (List ℕ)) (record_size : ℕ) (run : Run) (ready : IsRun
 
   old_bytes : (index : ℕ) → IfSome (old.block index) HasBytes
   old_bytes index =
-      old_block_any held record_size run index (λ o. IfSome o HasBytes) tt ready.levels
+      old_block_any held record_size run index (λ o. IfSome o HasBytes) tt levels
       (λ s node bytes within there. read_block (entry_at 1 bytes s) (part_bytes node 1 (49 * s) 49 bytes there))
 
   target_bytes : (index : ℕ) → IfSome (target run old index) HasBytes
@@ -255,7 +280,7 @@ module _ (held : List (List ℕ)) (record_size : ℕ) (run : Run) (ready : IsRun
 
   pub after_bytes : HoldsBytes (held_after held record_size run)
   unfolding puts_of
-  after_bytes = holds_append held (puts_of run old (length held)) ready.bytes (by_none (run.blocks == 0))
+  after_bytes = holds_append held (puts_of run old (length held)) holds (by_none (run.blocks == 0))
     where
       by_none : (b : Bool) → HoldsBytes (if b then [] else (made (levels_for run.blocks)).puts)
       by_none true = holds_none
@@ -269,4 +294,4 @@ pub run_fold : (held : List (List ℕ)) (record_size : ℕ) (run : Run) (refs : 
     → option_map (λ node. node.mac) (tree_after held record_size run).top ≡ fold_mac (with_run run refs)
 run_fold held record_size run refs ready fair top is all =
     tree_fold (held_after held record_size run) record_size (tree_after held record_size run) (with_run run refs)
-    (after_bytes held record_size run ready fair top) (run_tree held record_size run refs ready is all)
+    (after_bytes held record_size run ready.levels ready.bytes fair top) (run_tree held record_size run refs ready is all)

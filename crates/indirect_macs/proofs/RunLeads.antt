@@ -9,7 +9,7 @@ use Rattle.indirect_macs.specs.declared.refs.NodeRef.{NodeRef}
 use Rattle.indirect_macs.specs.declared.refs.MacError.{MacError}
 use Rattle.indirect_macs.specs.Entries.{block_at, node_at}
 use Rattle.indirect_macs.specs.Walk.{place_of, slot_of, walk}
-use Rattle.indirect_macs.specs.Trees.{IsRunOn, walk_after}
+use Rattle.indirect_macs.specs.Trees.{IsRunOn, held_after, tree_after, walk_after}
 use Rattle.indirect_macs.specs.Runs.{Run, Old, Made, first_block, last_block, first_at, last_at, levels_for, found_at, walk_to, or_hole, old_of, target, new_ref, levels_made, puts_of, tree_of, Passes}
 use Rattle.indirect_macs.proofs.Growth.{walk-grown}
 use Rattle.indirect_macs.proofs.FoldOfTree.{power_least, power_mono}
@@ -116,19 +116,38 @@ walk_inside held record_size run index small =
     let inside : nat_lt index (32 ^ run.levels) ≡ true = grind (arith, small) in
     rw inside refl
 
--- a block whose new reference is known: one of the run, or one to which the old tree leads
-abbrev pub IsKnown : (held : List (List ℕ)) → (record_size : ℕ) → Run → (index : ℕ) → Type 0
-IsKnown held record_size run index = (in_run run index ≡ true) ⊎ ((x : Option BlockRef) × (walk_to held record_size run index ≡ Ok x))
+-- a place behind the blocks, of which the last one is touched
+abbrev pub IsBehind : Run → (index : ℕ) → Type 0
+IsBehind run index = (run.blocks ≤ index) × (last_block run ≡ run.blocks - 1)
 
--- no old block stays behind the blocks: the last block is touched, or there is none
+-- a block whose new reference is known: one of the run, or one to which the old tree leads, or one that is cut off
+abbrev pub IsKnown : (held : List (List ℕ)) → (record_size : ℕ) → Run → (index : ℕ) → Type 0
+IsKnown held record_size run index =
+    (in_run run index ≡ true) ⊎ ((x : Option BlockRef) × (walk_to held record_size run index ≡ Ok x)) ⊎ IsBehind run index
+
+-- the block doesn't stay behind the blocks: the last block is touched, or the old tree leads to none there
 abbrev pub IsCut : (held : List (List ℕ)) → (record_size : ℕ) → Run → (index : ℕ) → Type 0
 IsCut held record_size run index =
-    (index < run.blocks) ⊎ (last_block run ≡ run.blocks - 1) ⊎ ((i : ℕ) → run.blocks ≤ i → walk_to held record_size run i ≡ Ok None)
+    (index < run.blocks) ⊎ (last_block run ≡ run.blocks - 1) ⊎ (walk_to held record_size run index ≡ Ok None)
 
 old_known : (held : List (List ℕ)) (record_size : ℕ) (run : Run) (index : ℕ) → in_run run index ≡ false → IsKnown held record_size run index
-    → (x : Option BlockRef) × (walk_to held record_size run index ≡ Ok x)
+    → ((x : Option BlockRef) × (walk_to held record_size run index ≡ Ok x)) ⊎ IsBehind run index
 old_known held record_size run index out (inl inside) = absurd (cc)
 old_known held record_size run index out (inr known) = known
+
+-- an untouched node behind the last block, which is touched, is over none of the blocks
+over_none : (run : Run) (level index : ℕ) → Outside run level (place_of level index) → IsBehind run index → place_of level index * 32 ^ level < run.blocks → ⊥
+unfolding first_at last_at
+over_none run level index out (past, last) inside =
+    let positive : 0 < 32 ^ level = omega (arith, power_least level) in
+    let low = le-div (place_of level index) (run.blocks - 1) (32 ^ level) positive (omega (arith, inside)) in
+    let high = div_mono (run.blocks - 1) index (32 ^ level) positive (omega (arith, past)) in
+    let at : last_block run / 32 ^ level ≡ place_of level index = ap (λ (b : ℕ). b / 32 ^ level) last ∙ omega (arith, low, high) in
+    let first = div_mono (first_block run) (last_block run) (32 ^ level) positive (in_order run) in
+    elim out [
+      | inl less ↦ omega (arith, less, at, first)
+      | inr more ↦ omega (arith, more, at)
+    ]
 
 module _ (held : List (List ℕ)) (record_size : ℕ) (run : Run) (ready : IsRunOn held record_size run) (some : 0 < run.blocks) where
   abbrev old : Old
@@ -155,17 +174,8 @@ module _ (held : List (List ℕ)) (record_size : ℕ) (run : Run) (ready : IsRun
     where
       none : IsCut held record_size run index → run.blocks ≤ index → x ≡ None
       none (inl within) past = absurd (omega (arith, within, past))
-      none (inr (inl last)) past =
-          let positive : 0 < 32 ^ level = omega (arith, power_least level) in
-          let low = le-div (place_of level index) (run.blocks - 1) (32 ^ level) positive (omega (arith, inside)) in
-          let high = div_mono (run.blocks - 1) index (32 ^ level) positive (omega (arith, past)) in
-          let at : last_block run / 32 ^ level ≡ place_of level index = ap (λ (b : ℕ). b / 32 ^ level) last ∙ omega (arith, low, high) in
-          let first = div_mono (first_block run) (last_block run) (32 ^ level) positive (in_order run) in
-          elim out [
-            | inl less ↦ absurd (omega (arith, less, at, first))
-            | inr more ↦ absurd (omega (arith, more, at))
-          ]
-      none (inr (inr nothing)) past = ok_same x None (sym is ∙ nothing index past)
+      none (inr (inl last)) past = absurd (over_none run level index out (past, last) inside)
+      none (inr (inr nothing)) past = ok_same x None (sym is ∙ nothing)
 
   -- the node over all of the old tree
   raised_top : (low index : ℕ) (x : Option BlockRef) → run.levels ≡ low + 1 → index < 32 ^ (low + 1) → walk_to held record_size run index ≡ Ok x
@@ -269,16 +279,28 @@ module _ (held : List (List ℕ)) (record_size : ℕ) (run : Run) (ready : IsRun
             | inr past ↦ target_beyond run old index past
           ]
 
-  known_outside : (level index : ℕ) → Outside run level (place_of level index) → IsKnown held record_size run index
-      → (x : Option BlockRef) × (walk_to held record_size run index ≡ Ok x)
-  known_outside level index out known = old_known held record_size run index (not_in_run run level index out) known
+  untouched_behind : (low index : ℕ) → Outside run (low + 1) (place_of (low + 1) index) → IsBehind run index
+      → leads index low (new_ref run old (low + 1) (made (low + 1)) (place_of (low + 1) index)) (target run old index)
+  untouched_behind low index out behind =
+      let as_found : Option BlockRef → Result (Option BlockRef) MacError = λ o. Ok o in
+      let hole : leads index low None (target run old index) =
+      walk_none (held ++ final) record_size index low ∙ ap as_found (sym (target_beyond run old index behind.0)) in
+      new_ref_cases (λ r. leads index low r (target run old index)) run old (low + 1) (place_of (low + 1) index) (made (low + 1))
+      (λ from to. elim out [
+        | inl less ↦ absurd (omega (arith, less, from))
+        | inr more ↦ absurd (omega (arith, more, to))
+      ])
+      (λ _ past. hole) (λ _ inside above first. absurd (over_none run (low + 1) index out behind inside)) (λ _ above later. hole)
+      (λ _ inside within. absurd (over_none run (low + 1) index out behind inside))
 
   untouched_known : (low index : ℕ) → low + 1 ≤ levels_for run.blocks → Outside run (low + 1) (place_of (low + 1) index) → IsKnown held record_size run index
       → IsCut held record_size run index
       → leads index low (new_ref run old (low + 1) (made (low + 1)) (place_of (low + 1) index)) (target run old index)
   untouched_known low index most out known cut =
-      let x = known_outside (low + 1) index out known in
-      untouched_leads low index x.0 most out x.1 cut
+      elim (old_known held record_size run index (not_in_run run (low + 1) index out) known) [
+        | inl found ↦ untouched_leads low index found.0 most out found.1 cut
+        | inr behind ↦ untouched_behind low index out behind
+      ]
 
   leaf_leads : Passes held record_size run → (index : ℕ) → first_at run 1 ≤ place_of 1 index → place_of 1 index ≤ last_at run 1
       → leads index zero (new_ref run old 1 (made 1) (place_of 1 index)) (target run old index)
@@ -407,7 +429,7 @@ pub leads_elsewhere : (held : List (List ℕ)) (record_size : ℕ) (run : Run) (
     → in_run run index ≡ false → index < run.blocks → walk_to held record_size run index ≡ Ok found → walk_after held record_size run index ≡ Ok found
 unfolding old_of tree_of
 leads_elsewhere held record_size run index found ready passes out within is =
-    tree_leads held record_size run index ready passes (omega (arith, within)) (small_enough run index ready.few within) (inr (found, is)) (inl within)
+    tree_leads held record_size run index ready passes (omega (arith, within)) (small_enough run index ready.few within) (inr (inl (found, is))) (inl within)
     ∙ ap (λ (o : Option BlockRef). let r : Result (Option BlockRef) MacError = Ok o in r) (target_outside run (old_of held record_size run) index out within ∙ ap or_hole is)
 
 pub leads_before : (held : List (List ℕ)) (record_size : ℕ) (run : Run) (index : ℕ) (found : Option BlockRef) → IsRunOn held record_size run → Passes held record_size run
@@ -422,3 +444,22 @@ leads_behind held record_size run index found ready passes behind within is =
     let low : nat_le run.from index ≡ true = grind (arith, behind) in
     let no : nat_lt index (run.from + length run.refs) ≡ false = grind (arith, behind) in
     leads_elsewhere held record_size run index found ready passes (rw (low, no) refl) within is
+
+pub leads_past : (held : List (List ℕ)) (record_size : ℕ) (run : Run) (index : ℕ) → IsRunOn held record_size run → Passes held record_size run
+    → run.blocks ≤ index → index < 32 ^ (tree_after held record_size run).levels
+    → (last_block run ≡ run.blocks - 1) ⊎ (walk_to held record_size run index ≡ Ok None) → walk_after held record_size run index ≡ Ok None
+unfolding tree_of
+leads_past held record_size run index ready passes past small why =
+    elim (cases_lt 0 run.blocks) [
+      | inl some ↦
+          tree_leads held record_size run index ready passes some small (known why) (inr why)
+          ∙ ap (λ (o : Option BlockRef). let r : Result (Option BlockRef) MacError = Ok o in r) (target_beyond run (old_of held record_size run) index past)
+      | inr none ↦
+          let zero_blocks : run.blocks ≡ 0 = omega (arith, none) in
+          let is : (run.blocks == 0) ≡ true = rw zero_blocks refl in
+          rw is (walk_none (held_after held record_size run) record_size index (levels_for run.blocks - 1))
+    ]
+  where
+    known : (last_block run ≡ run.blocks - 1) ⊎ (walk_to held record_size run index ≡ Ok None) → IsKnown held record_size run index
+    known (inl last) = inr (inr (past, last))
+    known (inr nothing) = inr (inl (None, nothing))

@@ -127,8 +127,12 @@ cut_all : (held : List (List ℕ)) (record_size : ℕ) (run : Run) (refs : List 
     → IsTree held record_size (tree_before run) refs → LosesAll run refs → IsCut held record_size run index
 cut_all held record_size run refs index some is (inl last) = inr (inl last)
 cut_all held record_size run refs index some is (inr within) =
-    inr (inr (λ i past. tree_known held record_size run refs i some is
-    ∙ ap (λ (o : Option BlockRef). let r : Result (Option BlockRef) MacError = Ok o in r) (get_or_past refs i None (omega (arith, past, within)))))
+    elim (cases_lt index run.blocks) [
+      | inl inside ↦ inl inside
+      | inr past ↦
+          inr (inr (tree_known held record_size run refs index some is
+          ∙ ap (λ (o : Option BlockRef). let r : Result (Option BlockRef) MacError = Ok o in r) (get_or_past refs index None (omega (arith, past, within)))))
+    ]
 
 -- the tree with blocks
 some_tree : (held : List (List ℕ)) (record_size : ℕ) (run : Run) (refs : List (Option BlockRef)) → IsRunOn held record_size run → 0 < run.blocks
@@ -150,7 +154,7 @@ some_tree held record_size run refs ready some is all =
       room = omega (arith, length-with_run run refs, levels_room run.blocks ready.few);
       leads = λ index small.
           tree_leads held record_size run index ready passes some (subst (λ (l : ℕ). index < 32 ^ l) levels small)
-          (inr (get_or refs index None, tree_known held record_size run refs index ready.levels is)) (cut_all held record_size run refs index ready.levels is all)
+          (inr (inl (get_or refs index None, tree_known held record_size run refs index ready.levels is))) (cut_all held record_size run refs index ready.levels is all)
           ∙ ap (λ (o : Option BlockRef). let r : Result (Option BlockRef) MacError = Ok o in r) (new_blocks held record_size run refs index ready.levels is);
       filled = filled_from (held_after held record_size run) (levels_for run.blocks - 1) (tree_after held record_size run).top there;
     }

@@ -3,6 +3,7 @@
 -- each level from left to right. A node is put where its entries change, or where the old tree has no such
 -- node.
 use Rattle.std.specs.Prelude.{ℕ, zero, suc, ◌+◌, ◌-◌, ◌*◌, ◌/◌, ◌%◌, ◌^◌, ◌<◌, ◌≤◌, ◌≡◌, ◌==◌, ◌&&◌, ◌||◌, Bool, true, false, nat_le, nat_lt, if◌then◌else◌, List, [], ◌∷◌, ◌++◌, length, map, replicate, slice_index_or, Option, Some, None, is_none, is_some, Result, Ok, Err, IsOk}
+use Rattle.std.specs.Int.{div_ceil}
 use Rattle.std.specs.List.{list_all, flat_map}
 use Rattle.std.specs.Cmp.Lexicographic.{pointwise}
 use Rattle.std.specs.Option.{option_eq, option_map, option_map_or}
@@ -23,6 +24,10 @@ pub record Run : Type 0 where
   pub blocks : ℕ
   pub from : ℕ
   pub refs : List (Option BlockRef)
+
+-- how many blocks an object of this length has
+abbrev pub blocks_for : (record_size bytes : ℕ) → ℕ
+blocks_for record_size bytes = div_ceil bytes record_size
 
 -- the least number of levels of at least 1 with room for so many blocks, which are at most 32 ^ 5
 abbrev pub levels_for : ℕ → ℕ

@@ -19,16 +19,7 @@ pub fn are_holes<T>(entries: &[Option<T>]) -> bool
 }
 
 // Entries with holes behind them, up to a node's number.
-fn filled_blocks(group: &[Option<BlockRef>]) -> [Option<BlockRef>; 32]
-    requires { length group.now ≤ 32 }
-    ensures { result ≡ filled_up group.now }
-{
-    let mut entries = [None; ENTRIES];
-    entries[..group.len()].copy_from_slice(group);
-    entries
-}
-
-fn filled_nodes(group: &[Option<[u8; 16]>]) -> [Option<[u8; 16]>; 32]
+fn filled_up<T: Copy>(group: &[Option<T>]) -> [Option<T>; 32]
     requires { length group.now ≤ 32 }
     ensures { result ≡ filled_up group.now }
 {
@@ -70,7 +61,7 @@ fn block_group_mac(group: &[Option<BlockRef>]) -> Option<[u8; 16]>
     if are_holes(group) {
         return None;
     }
-    Some(blocks_mac(&filled_blocks(group)))
+    Some(blocks_mac(&filled_up(group)))
 }
 
 // The MAC of the node of this level over nodes of these MACs, or None where all are holes.
@@ -82,7 +73,7 @@ fn node_group_mac(group: &[Option<[u8; 16]>], level: u8) -> Option<[u8; 16]>
     if are_holes(group) {
         return None;
     }
-    Some(nodes_mac(&filled_nodes(group), level))
+    Some(nodes_mac(&filled_up(group), level))
 }
 
 // How many groups of 32 there are; an empty list is one group.

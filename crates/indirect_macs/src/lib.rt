@@ -29,7 +29,9 @@ pub use run_laws::{
     runs_by_hand, runs_change_their_blocks_alone, runs_keep_bytes, runs_keep_older_trees,
     runs_keep_trees, runs_put_only_changes, runs_touch_few_nodes, tops_are_folds,
 };
-pub use walk::lookup;
+pub use span::levels_for;
+pub use stored::put;
+pub use walk::{lookup, names_block, read};
 
 #[cfg(test)]
 mod tests;

@@ -131,22 +131,6 @@ fn new_refs(
     entries
 }
 
-fn same_block(one: &BlockRef, other: &BlockRef) -> bool
-    ensures { result ≡ same_block one.now other.now }
-{
-    one.size == other.size
-        && one.addr == other.addr
-        && one.salt == other.salt
-        && one.iv == other.iv
-        && one.mac == other.mac
-}
-
-fn same_node(one: &NodeRef, other: &NodeRef) -> bool
-    ensures { result ≡ same_node one.now other.now }
-{
-    one.addr == other.addr && one.mac == other.mac
-}
-
 fn same_blocks(old: &[Option<BlockRef>], new: &[Option<BlockRef>; 32]) -> bool
     ensures { result ≡ pointwise (option_eq same_block) old.now new.now }
 {
@@ -461,6 +445,7 @@ pub fn replace_run<B: Shelf>(
     requires within { from + length refs.now ≤ blocks }
     requires most { blocks ≤ 8388608 }
     requires sizes { All (λ entry. IfSome entry (λ r. IsTrue (is_size block r.size))) refs.now }
+    ensures levels { IfOk result (λ after. after.levels ≡ levels_for blocks) }
     ensures changes { let run = run_for tree.now blocks from refs.now in
         Changes (most_reads run) (most_puts run) result (B.told shelf.old) (B.told shelf.new) }
     ensures told { IfSome (B.told shelf.old).held (λ held.

@@ -1,11 +1,11 @@
 // Laws of trees and of the run. The functions do nothing.
-ghost use Rattle.std.specs.Prelude.{◌≡◌, ◌+◌, ◌-◌, ◌/◌, ◌<◌, ◌≤◌, ◌++◌, ℕ, List, [], ◌∷◌, Option, None, Some, Ok, All, IfSome, length, replicate, slice_index_or};
+ghost use Rattle.std.specs.Prelude.{◌≡◌, ◌+◌, ◌-◌, ◌/◌, ◌^◌, ◌<◌, ◌≤◌, ◌⊎◌, ◌++◌, ℕ, List, [], ◌∷◌, Option, None, Some, Ok, All, IfSome, length, replicate, slice_index_or};
 ghost use Rattle.std.specs.List.{flat_map};
 ghost use Rattle.std.specs.Option.{option_map};
 ghost use Rattle.indirect_macs.specs.Entries.{block_under_mac};
 ghost use Rattle.indirect_macs.specs.Fold.{fold_mac};
 ghost use Rattle.indirect_macs.specs.Nodes.{block_node, mac_of, ref_node};
-ghost use Rattle.indirect_macs.specs.Runs.{Old, Passes, Run, levels_for, most_puts, most_reads, old_of, puts_of, walk_to};
+ghost use Rattle.indirect_macs.specs.Runs.{Old, Passes, Run, last_block, levels_for, most_puts, most_reads, old_of, puts_of, walk_to};
 ghost use Rattle.indirect_macs.specs.Trees.{AreBytes, HasBytes, HoldsBytes, IsRunOn, IsTree, LosesAll, held_after, tree_after, tree_before, walk_after, with_run};
 ghost use Rattle.indirect_macs.specs.Walk.{walk};
 ghost use Rattle.indirect_macs.specs.declared.refs.BlockRef.{BlockRef};
@@ -34,11 +34,15 @@ pub fn runs_keep_trees()
 {}
 
 /// A shelf of bytes stays one where the run's references are of bytes, and then the top of the new
-/// tree has the MAC of the references with the run put in.
+/// tree has the MAC of the references with the run put in. The reference to a node that a walk went
+/// through names a held block, and its MAC is 16 bytes.
 pub fn runs_keep_bytes()
-    ensures bytes { (held : List (List ℕ)) (record_size : ℕ) (run : Run) → IsRunOn held record_size run
+    ensures bytes { (held : List (List ℕ)) (record_size : ℕ) (run : Run) → 1 ≤ run.levels → HoldsBytes held
         → All (λ entry. IfSome entry HasBytes) run.refs → IfSome run.top (λ node. AreBytes node.mac)
         → HoldsBytes (held_after held record_size run) }
+    ensures walked { (held : List (List ℕ)) (record_size index below : ℕ) (node : NodeRef) (found : Option BlockRef)
+        → walk held record_size index below (Some node) ≡ Ok found
+        → (node.addr < length held) × (length node.mac ≡ 16) × AreBytes node.mac }
     ensures folds { (held : List (List ℕ)) (record_size : ℕ) (run : Run) (refs : List (Option BlockRef))
         → IsRunOn held record_size run → All (λ entry. IfSome entry HasBytes) run.refs
         → IfSome run.top (λ node. AreBytes node.mac) → IsTree held record_size (tree_before run) refs
@@ -82,7 +86,9 @@ pub fn runs_touch_few_nodes()
 
 /// Where the nodes over a run pass, the walks of the new tree are those of the old one with the run
 /// put in: within the run they give its references, whatever the old tree led to, and each block
-/// elsewhere that the old tree led to is found as before, and a hole beyond the old tree.
+/// elsewhere that the old tree led to is found as before, and a hole beyond the old tree. Behind the
+/// new number of blocks they find nothing, where the run ends at the last block or the old tree had
+/// nothing there.
 pub fn runs_change_their_blocks_alone()
     ensures within { (held : List (List ℕ)) (record_size : ℕ) (run : Run) (index : ℕ) → IsRunOn held record_size run
         → Passes held record_size run → run.from ≤ index → index < run.from + length run.refs
@@ -94,6 +100,10 @@ pub fn runs_change_their_blocks_alone()
         → IsRunOn held record_size run → Passes held record_size run → run.from + length run.refs ≤ index
         → index < run.blocks → walk_to held record_size run index ≡ Ok found
         → walk_after held record_size run index ≡ Ok found }
+    ensures past { (held : List (List ℕ)) (record_size : ℕ) (run : Run) (index : ℕ) → IsRunOn held record_size run
+        → Passes held record_size run → run.blocks ≤ index → index < 32 ^ (tree_after held record_size run).levels
+        → (last_block run ≡ run.blocks - 1) ⊎ (walk_to held record_size run index ≡ Ok None)
+        → walk_after held record_size run index ≡ Ok None }
 {}
 
 /// What is put for a run changes nothing of an older tree on the same shelf, as that of a snapshot:

@@ -1,8 +1,8 @@
 // Nodes of given entries, as they are put on a shelf.
-ghost use Rattle.std.specs.Prelude.{◌≡◌, ℕ, ◌≤◌, List, [], ◌∷◌, ◌++◌, length, map, replicate, Option, IfOk};
+ghost use Rattle.std.specs.Prelude.{◌≡◌, ℕ, ◌≤◌, List, [], ◌∷◌, ◌++◌, length, map, replicate, Option, IfOk, OnErr};
 ghost use Rattle.std.specs.List.{flat_map};
 ghost use Rattle.std.specs.Option.{option_map};
-ghost use Rattle.shelf_store.specs.ShelfState.{ShelfState};
+ghost use Rattle.shelf_store.specs.ShelfState.{ShelfState, counted};
 ghost use Rattle.indirect_macs.specs.Entries.{block_entry, node_entry, node_under_mac};
 ghost use Rattle.indirect_macs.specs.Nodes.{block_node, mac_of, ref_node};
 ghost use Rattle.indirect_macs.specs.Runs.{inner_of, leaf_of, puts_with, ref_with};
@@ -87,14 +87,19 @@ fn inner_mac(entries: &[Option<NodeRef>; 32], level: u8) -> [u8; 16]
     cut(&hasher.finalize())
 }
 
-// Puts a node at the end of the shelf.
-fn put<B: Shelf>(shelf: &mut B, node: &[u8]) -> Result<u64, MacError>
+/// Puts a block at the end of the shelf, and gives its address.
+///
+/// # Errors
+///
+/// `ShelfFault`, `Full` and `NoMemory`, as of the shelf; then nothing was put.
+pub fn put<B: Shelf>(shelf: &mut B, block: &[u8]) -> Result<u64, MacError>
     ensures address { IfOk result (λ address. address ≡ length (B.told shelf.old).sizes) }
+    ensures stays { OnErr result (B.told shelf.new ≡ counted (B.told shelf.old)) }
     ensures puts { (reads : ℕ) (before : List (List ℕ)) (start : ShelfState)
         → HasPut reads before start (B.told shelf.old)
-        → Puts reads (before ++ node.now ∷ []) result start (B.told shelf.new) }
+        → Puts reads (before ++ block.now ∷ []) result start (B.told shelf.new) }
 {
-    match shelf.put(node) {
+    match shelf.put(block) {
         Ok(addr) => Ok(addr),
         Err(ShelfError::Fault) => Err(MacError::ShelfFault),
         Err(ShelfError::Full) => Err(MacError::Full),

@@ -1,5 +1,6 @@
 // The walk from the top of a tree to one block.
-ghost use Rattle.std.specs.Prelude.{◌≡◌, ◌<◌, ◌≤◌, ◌^◌, ◌-◌, length, map, Ok, None, IfSome, IfNone, IfErr, OnOk, Some, is_err, slice_get};
+ghost use Rattle.std.specs.Prelude.{◌≡◌, ◌==◌, ◌<◌, ◌≤◌, ◌^◌, ◌-◌, length, map, Ok, None, IfSome, IfNone, IfErr, OnOk, Some, is_err, slice_get};
+ghost use Rattle.std.specs.Option.{option_eq};
 ghost use Rattle.shelf_store.specs.ShelfState.{HasToldSizes, counted, is_due};
 ghost use Rattle.indirect_macs.specs.Nodes.{node_len};
 ghost use Rattle.indirect_macs.specs.Walk.{fails_at, names_node, next_block, next_node, passed, place_of, reads, reads_of, slot_of, tested, walk};
@@ -41,16 +42,26 @@ fn fails_at(level: u8, index: u32) -> MacError
     }
 }
 
-// Whether a block of the size of a node of this level has the address.
+/// Whether the address is that of a block of so many bytes.
+pub fn names_block<B: Shelf>(shelf: &B, addr: u64, size: u32) -> bool
+    ensures value { result ≡ option_eq ◌==◌ (slice_get (B.told shelf.now).sizes addr) (Some size) }
+    ensures sizes { HasToldSizes (B.told shelf.now) }
+{
+    shelf.size(addr) == Some(size)
+}
+
+// Whether the address is that of a block of the size of a node of this level.
 #[tactic(auto, unfolding(crate::specs::Walk::names_node))]
 fn names_node<B: Shelf>(shelf: &B, addr: u64, level: u8) -> bool
     ensures value { result ≡ names_node (B.told shelf.now).sizes level addr }
     ensures sizes { HasToldSizes (B.told shelf.now) }
 {
-    shelf.size(addr) == Some((ENTRIES * entry_len(level)) as u32)
+    names_block(shelf, addr, (ENTRIES * entry_len(level)) as u32)
 }
 
-fn read<B: Shelf>(shelf: &mut B, addr: u64, out: &mut [u8]) -> Result<(), MacError>
+/// Reads the block of an address into `out`, which has its size. A call of the shelf that fails is
+/// `ShelfFault`.
+pub fn read<B: Shelf>(shelf: &mut B, addr: u64, out: &mut [u8]) -> Result<(), MacError>
     requires { slice_get (B.told shelf.old).sizes addr ≡ Some (length out.old) }
     ensures due { is_err result ≡ is_due (B.told shelf.old).armed }
     ensures fault { IfErr result (λ stop. stop ≡ MacError.ShelfFault) }

@@ -1,4 +1,4 @@
-use Rattle.std.proofs.Common.{◌≡◌, ◌==◌, ◌∙◌, true, Some, sym, ap}
+use Rattle.std.proofs.Common.{◌≡◌, ◌==◌, ◌∙◌, Some, sym, ap}
 use Rattle.std.specs.List.{position}
 use Rattle.family_log.specs.declared.head.Head.{Head}
 use Rattle.family_log.specs.Calls.{given}

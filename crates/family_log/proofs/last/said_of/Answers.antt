@@ -1,5 +1,5 @@
-use Rattle.std.proofs.Common.{◌≡◌, ◌∙◌, Some, sym}
-use Rattle.family_log.specs.Log.{changes_in, ref_in}
+use Rattle.std.proofs.Common.{◌∙◌, sym}
+use Rattle.family_log.specs.Log.{ref_in}
 use Rattle.family_log.specs.Reading.{changes_of, spot_of}
 use Rattle.family_log.proofs.LogLemmas.{said-changed}
 use Rattle.family_log.proofs.last.said_of.Goals as goal

@@ -5,4 +5,4 @@ pub returns-clause-tables : goal.returns-clause-tables
 returns-clause-tables c = λ blocks more log spot table tells. tells-grown blocks more log spot table tells
 
 pub returns-clause-families : goal.returns-clause-families
-returns-clause-families c = λ family more shelf honest grown. honest-grown family more shelf honest grown
+returns-clause-families c = λ family more shelf honest grown bytes. honest-grown family more shelf honest grown bytes

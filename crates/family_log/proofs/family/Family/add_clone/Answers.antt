@@ -1,25 +1,27 @@
-use Rattle.std.proofs.Common.{◌≡◌, ◌<◌, length, true, Some, refl, sym, subst}
+use Rattle.std.proofs.Common.{◌≡◌, ◌<◌, length, true, Some, sym, subst}
 use Rattle.std.specs.Prelude.{is_none}
-use Rattle.family_log.specs.declared.entry.LogEntry.TheVariants.{Clone}
 use Rattle.family_log.specs.Model.{FamilyState, head_of, table_of}
 use Rattle.family_log.specs.Snapshots.{clone_added}
 use Rattle.family_log.specs.Honest.{IsHonest}
-use Rattle.family_log.proofs.KeptLemmas.{IsHonest-clone, IsKept-clone, clone_built, table_of-is}
+use Rattle.family_log.proofs.KeptLemmas.{IsHonest-clone, IsKept-clone, clone_built}
 use Rattle.family_log.proofs.family.Family.add_clone.Goals as goal
 
 pub invariant_of-self-in-Ok : goal.invariant_of-self-in-Ok
 invariant_of-self-in-Ok g c =
-    let found : Some c.in-Some.table.now ≡ table_of c.args.from.now c.self.inside.heads.items =
-    subst (λ (f : FamilyState). Some c.in-Some.table.now ≡ table_of c.args.from.now f.heads) (sym c.self.view_is) c.in-Some.ensures.table in
-    let none : is_none (head_of c.args.head c.self.inside.heads.items) ≡ true =
-    subst (λ (f : FamilyState). is_none (head_of c.args.head f.heads) ≡ true) (sym c.self.view_is) c.requires.fresh.absent in
-    let left : length c.self.inside.log.items < c.self.inside.room =
-    subst (λ (f : FamilyState). length f.log < f.room) (sym c.self.view_is) c.requires.room in
-    rw (c.in-Ok.ensures.added, c.in_ok-push.ensures.items, c.in_ok-table.ensures)
-    (IsKept-clone c.self.inside.block c.self.inside.room c.args.head c.self.inside.heads.items c.self.inside.log.items
-    (Clone c.in_ok-copy.field-0 c.args.head) c.in-Some.table.now c.self.invariant
-    (table_of-is c.self.inside.block c.self.inside.room c.args.from.now c.self.inside.heads.items c.self.inside.log.items c.in-Some.table.now c.self.invariant found)
-    none left)
+    let family : FamilyState = record {
+      guid = c.self.inside.guid;
+      block = c.self.inside.block;
+      room = c.self.inside.room;
+      heads = c.self.inside.heads.items;
+      log = c.self.inside.log.items;
+      salts = c.self.inside.salts;
+      shelf = g.B.Shelf.told c.self.inside.shelf;
+    } in
+    let P : FamilyState → Type 0 = λ old. (Some c.in-Some.table.now ≡ table_of c.args.from.now old.heads)
+    × (is_none (head_of c.args.head old.heads) ≡ true) × (length old.log < old.room) in
+    let is : P family = subst P (sym c.self.view_is) (c.in-Some.ensures.table, c.requires.fresh.absent, c.requires.room) in
+    rw (c.in-Ok.ensures.added, c.in_ok-push.ensures.items, c.in_ok-copy.ensures, c.in_ok-table.ensures)
+    (IsKept-clone family c.args.from.now c.args.head c.in-Some.table.now c.self.invariant is.0 is.1 is.2)
 
 pub returns-in-Ok-clause-honest : goal.returns-in-Ok-clause-honest
 returns-in-Ok-clause-honest g c = λ honest.

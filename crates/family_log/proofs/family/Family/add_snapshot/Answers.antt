@@ -1,23 +1,27 @@
 use Rattle.std.proofs.Common.{◌≡◌, ◌<◌, length, false, refl, sym, subst}
 use Rattle.family_log.specs.declared.head.TheConstants.{MAX_SNAPSHOTS}
-use Rattle.family_log.specs.declared.entry.LogEntry.TheVariants.{Snapshot}
 use Rattle.family_log.specs.Model.{FamilyState, snapshot_count}
 use Rattle.family_log.specs.Snapshots.{has_snapshot, snapshot_added}
 use Rattle.family_log.specs.Honest.{IsHonest}
-use Rattle.family_log.proofs.KeptLemmas.{IsHonest-snapshot, IsKept-snapshot}
+use Rattle.family_log.proofs.KeptLemmas.{IsFamily-snapshot, IsHonest-snapshot}
 use Rattle.family_log.proofs.family.Family.add_snapshot.Goals as goal
 
 pub invariant_of-self-in-Ok : goal.invariant_of-self-in-Ok
 invariant_of-self-in-Ok g c =
-    let none : has_snapshot c.args.head c.args.part.now c.self.inside.heads.items ≡ false =
-    subst (λ (f : FamilyState). has_snapshot c.args.head c.args.part.now f.heads ≡ false) (sym c.self.view_is) c.requires.fresh in
-    let few : snapshot_count c.self.inside.heads.items < MAX_SNAPSHOTS =
-    subst (λ (f : FamilyState). snapshot_count f.heads < MAX_SNAPSHOTS) (sym c.self.view_is) c.requires.few in
-    let left : length c.self.inside.log.items < c.self.inside.room =
-    subst (λ (f : FamilyState). length f.log < f.room) (sym c.self.view_is) c.requires.room in
-    rw (c.in-Ok.ensures.added, c.in_ok-push.ensures.items)
-    (IsKept-snapshot c.self.inside.block c.self.inside.room c.args.head c.args.guid c.args.part.now c.self.inside.heads.items c.self.inside.log.items
-    (Snapshot c.args.head c.in_ok-copy.field-0) c.self.invariant none few left)
+    let family : FamilyState = record {
+      guid = c.self.inside.guid;
+      block = c.self.inside.block;
+      room = c.self.inside.room;
+      heads = c.self.inside.heads.items;
+      log = c.self.inside.log.items;
+      salts = c.self.inside.salts;
+      shelf = g.B.Shelf.told c.self.inside.shelf;
+    } in
+    let P : FamilyState → Type 0 = λ old. (has_snapshot c.args.head c.args.part.now old.heads ≡ false)
+    × (snapshot_count old.heads < MAX_SNAPSHOTS) × (length old.log < old.room) in
+    let is : P family = subst P (sym c.self.view_is) (c.requires.fresh, c.requires.few, c.requires.room) in
+    rw (c.in-Ok.ensures.added, c.in_ok-push.ensures.items, c.in_ok-copy.ensures)
+    (IsFamily-snapshot family c.args.head c.args.part.now c.args.guid c.self.invariant is.0 is.1 is.2)
 
 pub returns-in-Ok-clause-honest : goal.returns-in-Ok-clause-honest
 returns-in-Ok-clause-honest g c = λ honest.

@@ -1,7 +1,14 @@
 use Rattle.std.proofs.Common.{◌≡◌, refl}
 use Rattle.family_log.specs.Model.{FamilyState, fresh_family}
+use Rattle.family_log.proofs.FreshLemmas.{fresh-is_family}
 use Rattle.family_log.proofs.HonestLemmas.{fresh_is_honest}
 use Rattle.family_log.proofs.family.Family.make.Goals as goal
+
+pub invariant_of-result : goal.invariant_of-result
+invariant_of-result g c =
+    rw (c.in_ok-heads.ensures, c.in_ok-fresh.ensures, c.in_ok-log.ensures)
+    (fresh-is_family g.B.Shelf.tells c.args.guid c.args.block c.new.result c.args.room c.args.head c.args.portable c.requires.record_size
+    c.requires.room_least c.requires.room_most)
 
 pub returns-clause-honest : goal.returns-clause-honest
 returns-clause-honest g c =
