@@ -1,8 +1,8 @@
 -- What texts and then nodes that are put leave, over plain variables.
-use Rattle.std.proofs.Common.{◌≡◌, ℕ, zero, suc, ◌+◌, ◌-◌, ◌*◌, ◌<◌, ◌≤◌, Bool, true, false, List, [], ◌∷◌, ◌++◌, length, map, get_or, refl, sym, ap, subst, ◌∙◌, inr, arith, Option, Some, None, Result, Ok, Err, if◌then◌else◌}
+use Rattle.std.proofs.Common.{◌≡◌, ℕ, zero, suc, ◌+◌, ◌-◌, ◌*◌, ◌/◌, ◌<◌, ◌≤◌, Bool, true, false, List, [], ◌∷◌, ◌++◌, length, map, get_or, refl, sym, ap, subst, ◌∙◌, inr, arith, Option, Some, None, Result, Ok, Err, if◌then◌else◌}
 use Rattle.std.specs.Prelude.{All, IfSome, IsOk, IsTrue}
 use Rattle.std.specs.Option.{option_map}
-use Rattle.std.proofs.lemmas.List.{append_assoc, map-append}
+use Rattle.std.proofs.lemmas.List.{append_assoc, length-append, map-append}
 use Rattle.std.proofs.lemmas.List.Elements.{All-nil, All-cons}
 use Rattle.std.proofs.lemmas.Bool.Decides.{nat_tests}
 use Rattle.std.proofs.lemmas.Option.{IfSome_then}
@@ -18,11 +18,12 @@ use Rattle.indirect_macs.specs.Calls.{fails_within, is_fault}
 use Rattle.indirect_macs.specs.Entries.{is_size}
 use Rattle.indirect_macs.specs.Replaced.{Changes, Ended, Replaced, with_blocks}
 use Rattle.indirect_macs.specs.RunFields.{run_for}
-use Rattle.indirect_macs.specs.Runs.{Run, Old, FirstFails, Passes, levels_for, most_reads, old_of, puts_of, tree_of, walk_to}
+use Rattle.indirect_macs.specs.Runs.{Run, Old, FirstFails, Passes, levels_for, most_puts, most_reads, old_of, puts_of, tree_of, walk_to}
 use Rattle.indirect_macs.specs.Steps.{Puts, PutEnded}
 use Rattle.indirect_macs.specs.Walk.{walk}
 use Rattle.indirect_macs.proofs.Growth.{walk-grown}
 use Rattle.indirect_macs.proofs.Putting.{same_fault}
+use Rattle.indirect_macs.proofs.RunBounds.{puts_where_levels_grow}
 use Rattle.indirect_macs.proofs.RunLevels.{blocks_nothing}
 use Rattle.indirect_macs.proofs.Walking.{after_more, fails_more, held_kept}
 use Rattle.file_blocks.specs.declared.object.Object.{Object}
@@ -92,6 +93,7 @@ leaving_full count s salts few =
       calls = 0;
       put = [];
       draws = 0;
+      bound = omega arith;
       after = sym (blocks_nothing s);
       fault = refl;
       drawn = sym (no_draws salts);
@@ -111,6 +113,7 @@ leaving_stop {X = X} {Y = Y} key texts stop s t salts left enough seals =
       calls = seals.puts.calls;
       put = seals.puts.put;
       draws = seals.draws;
+      bound = omega (arith, size, ap length seals.puts.parts, length-append seals.puts.put seals.puts.rest);
       after = seals.puts.after;
       fault = same_fault X Y stop ∙ seals.puts.fault;
       drawn = seals.drawn;
@@ -122,11 +125,18 @@ leaving_stop {X = X} {Y = Y} key texts stop s t salts left enough seals =
       );
     }
 
+-- the nodes over texts, at most so many
+pub nodes_few : (tree : ObjTree) (blocks first : ℕ) (refs : List (Option BlockRef)) (texts : List (List ℕ)) → 1 ≤ tree.levels → blocks ≤ 8388608
+    → first + length texts ≤ blocks → length refs ≡ length texts → most_puts (run_for tree blocks first refs) ≤ length texts / 31 + 12
+nodes_few tree blocks first refs texts some few within size =
+    subst (λ (n : ℕ). most_puts (run_for tree blocks first refs) ≤ n / 31 + 12) size
+    (puts_where_levels_grow (run_for tree blocks first refs) some (omega (arith, within, size)) few)
+
 -- the nodes were put
 pub leaving_ok : {X Y : Type 0} (key : KeyValue) (texts : List (List ℕ)) (x : X) (y : Y) (reads puts : ℕ) (s m t : ShelfState) (salts left : SaltState)
-    → HasDraws salts (length texts) → IsSealed key texts s m salts left → Changes {X = Y} reads puts (Ok y) m t
+    → puts ≤ length texts / 31 + 12 → HasDraws salts (length texts) → IsSealed key texts s m salts left → Changes {X = Y} reads puts (Ok y) m t
     → Leaving {X = X} (length texts) (Ok x) s t salts left
-leaving_ok {X = X} {Y = Y} key texts x y reads puts s m t salts left enough all nodes =
+leaving_ok {X = X} {Y = Y} key texts x y reads puts s m t salts left few enough all nodes =
     let went = went_on {X = Y} all.put.calls nodes.calls (sealed_texts key salts texts) nodes.put (Ok y) s m t all.put.after all.put.quiet nodes.after nodes.fault in
     let size : length (sealed_texts key salts texts ++ nodes.put) ≡ length texts + length nodes.put = sealed_size key salts texts nodes.put in
     record {
@@ -135,6 +145,7 @@ leaving_ok {X = X} {Y = Y} key texts x y reads puts s m t salts left enough all 
       calls = went.calls;
       put = sealed_texts key salts texts ++ nodes.put;
       draws = length texts;
+      bound = omega (arith, size, nodes.few, few);
       after = went.after;
       fault = went.fault;
       drawn = all.drawn;
@@ -143,9 +154,9 @@ leaving_ok {X = X} {Y = Y} key texts x y reads puts s m t salts left enough all 
     }
 
 pub leaving_err : {X Y : Type 0} (key : KeyValue) (texts : List (List ℕ)) (stop : MacError) (reads puts : ℕ) (s m t : ShelfState) (salts left : SaltState)
-    → HasDraws salts (length texts) → IsSealed key texts s m salts left → Changes {X = Y} reads puts (Err stop) m t
+    → puts ≤ length texts / 31 + 12 → HasDraws salts (length texts) → IsSealed key texts s m salts left → Changes {X = Y} reads puts (Err stop) m t
     → Leaving {X = X} (length texts) (Err (Stopped stop)) s t salts left
-leaving_err {X = X} {Y = Y} key texts stop reads puts s m t salts left enough all nodes =
+leaving_err {X = X} {Y = Y} key texts stop reads puts s m t salts left few enough all nodes =
     let went = went_on {X = Y} all.put.calls nodes.calls (sealed_texts key salts texts) nodes.put (Err stop) s m t all.put.after all.put.quiet nodes.after nodes.fault in
     let size : length (sealed_texts key salts texts ++ nodes.put) ≡ length texts + length nodes.put = sealed_size key salts texts nodes.put in
     record {
@@ -154,6 +165,7 @@ leaving_err {X = X} {Y = Y} key texts stop reads puts s m t salts left enough al
       calls = went.calls;
       put = sealed_texts key salts texts ++ nodes.put;
       draws = length texts;
+      bound = omega (arith, size, nodes.few, few);
       after = went.after;
       fault = same_fault X Y stop ∙ went.fault;
       drawn = all.drawn;
@@ -448,31 +460,6 @@ refs_sized key salts addr record_size (text ∷ texts) sizes =
     All-cons (λ entry. IfSome entry (λ r. IsTrue (is_size record_size r.size))) (Some (ref_under key (next_draw salts) addr text)) (refs_to key (after_draws 1 salts) (addr + 1) texts)
     (sized record_size (length text) (sizes 0 [] (omega arith)).0 (sizes 0 [] (omega arith)).1)
     (refs_sized key (after_draws 1 salts) (addr + 1) record_size texts (λ k d within. sizes (suc k) d (omega (arith, within))))
-
--- ---- the levels
-
-same_top : (run : Run) (old : Old) (base : ℕ) (tree : ObjTree) (levels : ℕ) → levels ≡ levels_for run.blocks → tree ≡ tree_of run old base
-    → (let given : ObjTree = record { levels = levels; top = tree.top } in given ≡ tree_of run old base)
-unfolding tree_of
-same_top run old base tree levels is same = rw is (ap (λ (t : ObjTree). record { levels = levels_for run.blocks; top = t.top }) same)
-
-pub replaced_levels : (held : List (List ℕ)) (record_size : ℕ) (run : Run) (tree : ObjTree) (levels : ℕ) (s t : ShelfState) → levels ≡ levels_for run.blocks
-    → Replaced held record_size run (Ok tree) s t → Replaced held record_size run (Ok (record { levels = levels; top = tree.top })) s t
-replaced_levels held record_size run tree levels s t is replaced =
-    record {
-      calls = replaced.calls;
-      put = replaced.put;
-      rest = replaced.rest;
-      parts = replaced.parts;
-      bound = replaced.bound;
-      after = replaced.after;
-      fault = replaced.fault;
-      ended = (replaced.ended.0, same_top run (old_of held record_size run) (length s.sizes) tree levels is replaced.ended.1, replaced.ended.2);
-    }
-
-pub changes_as : {X Y : Type 0} (reads puts : ℕ) (x : X) (y : Y) (s t : ShelfState) → Changes {X = X} reads puts (Ok x) s t → Changes {X = Y} reads puts (Ok y) s t
-changes_as reads puts x y s t changes =
-    record { calls = changes.calls; put = changes.put; bound = changes.bound; few = changes.few; after = changes.after; fault = changes.fault }
 
 -- ---- what was made
 

@@ -16,3 +16,11 @@ pub mod Composing
 pub mod Stored
 pub mod WrittenBytes
 pub mod WrittenRanges
+pub mod WholeBytes
+pub mod WholeRanges
+pub mod Behind
+pub mod BehindBytes
+pub mod Leading
+pub mod BehindTrees
+pub mod Fitting
+pub mod FittingRuns

@@ -95,7 +95,7 @@ blocks_none record_size wide =
         let one : 1 * record_size ≡ record_size = omega arith in
         absurd (omega (arith, at_next, parts, one))
 
-blocks_order : (record_size a b : ℕ) → 0 < record_size → a ≤ b → blocks_for record_size a ≤ blocks_for record_size b
+pub blocks_order : (record_size a b : ℕ) → 0 < record_size → a ≤ b → blocks_for record_size a ≤ blocks_for record_size b
 blocks_order record_size a b wide order =
     let low = div_ceil_times a record_size wide in
     let high = div_ceil_times b record_size wide in

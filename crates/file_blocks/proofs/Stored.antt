@@ -21,7 +21,7 @@ use Rattle.file_blocks.proofs.Sealing.{draws_twice, length-refs, length-sealed, 
 
 -- ---- each text, sealed
 
-refs_at : (key : KeyValue) (salts : SaltState) (addr : ℕ) (texts : List (List ℕ)) (k : ℕ) → k < length texts
+pub refs_at : (key : KeyValue) (salts : SaltState) (addr : ℕ) (texts : List (List ℕ)) (k : ℕ) → k < length texts
     → slice_index_or (refs_to key salts addr texts) k None ≡ Some (ref_under key (next_draw (after_draws k salts)) (addr + k) (slice_index_or texts k []))
 unfolding refs_to
 refs_at key salts addr [] k within = absurd (omega (arith, within))
@@ -37,7 +37,7 @@ refs_at key salts addr (text ∷ texts) (suc k) within =
     (draws_twice 1 k salts ∙ ap (λ (n : ℕ). after_draws n salts) later)
     ∙ ap (λ (a : ℕ). let r : Option BlockRef = Some (ref_under key (next_draw (after_draws (suc k) salts)) a (slice_index_or texts k [])) in r) at
 
-sealed_at : (key : KeyValue) (salts : SaltState) (texts : List (List ℕ)) (k : ℕ) → k < length texts
+pub sealed_at : (key : KeyValue) (salts : SaltState) (texts : List (List ℕ)) (k : ℕ) → k < length texts
     → slice_get (sealed_texts key salts texts) k ≡ Some (sealed_under key (next_draw (after_draws k salts)) (slice_index_or texts k []))
 unfolding sealed_texts
 sealed_at key salts [] k within = absurd (omega (arith, within))
@@ -49,14 +49,14 @@ sealed_at key salts (text ∷ texts) (suc k) within =
     ∙ ap (λ (s : SaltState). let r : Option (List ℕ) = Some (sealed_under key (next_draw s) (slice_index_or texts k [])) in r)
     (draws_twice 1 k salts ∙ ap (λ (n : ℕ). after_draws n salts) later)
 
-behind_get : {A : Type 0} (xs ys : List A) (k : ℕ) → slice_get (xs ++ ys) (length xs + k) ≡ slice_get ys k
+pub behind_get : {A : Type 0} (xs ys : List A) (k : ℕ) → slice_get (xs ++ ys) (length xs + k) ≡ slice_get ys k
 behind_get [] ys k = let place : 0 + k ≡ k = omega arith in rw place refl
 behind_get (x ∷ xs) ys k =
     let place : suc (length xs) + k ≡ suc (length xs + k) = omega arith in
     rw place (behind_get xs ys k)
 
 -- the sealed text opens
-opened_sealed : (key : KeyValue) (d : Drawn) (addr : ℕ) (text : List ℕ) (held : List (List ℕ)) → slice_get held addr ≡ Some (sealed_under key d text)
+pub opened_sealed : (key : KeyValue) (d : Drawn) (addr : ℕ) (text : List ℕ) (held : List (List ℕ)) → slice_get held addr ≡ Some (sealed_under key d text)
     → opened_ref key held (ref_under key d addr text) ≡ Some text
 unfolding opened_ref
 opened_sealed key d addr text held there =
@@ -66,7 +66,7 @@ opened_sealed key d addr text held there =
 
 -- ---- the whole shelf and the new tree
 
-held_is : (key : KeyValue) (salts : SaltState) (held : List (List ℕ)) (c : Change) → c.stays ≡ false
+pub held_is : (key : KeyValue) (salts : SaltState) (held : List (List ℕ)) (c : Change) → c.stays ≡ false
     → held ++ puts_in key salts held (length held) c
     ≡ held_after (held_with key salts held c) c.record_size (run_in key salts (length held) c)
 held_is key salts held c moves =
@@ -74,7 +74,7 @@ held_is key salts held c moves =
     length-append held (sealed_texts key salts c.texts) ∙ ap (λ (n : ℕ). length held + n) (length-sealed key salts c.texts) in
     rw (nodes_made key salts held (length held) c moves, count) (sym (append_assoc held (sealed_texts key salts c.texts) _))
 
-tree_is : (key : KeyValue) (salts : SaltState) (held : List (List ℕ)) (c : Change) → c.stays ≡ false
+pub tree_is : (key : KeyValue) (salts : SaltState) (held : List (List ℕ)) (c : Change) → c.stays ≡ false
     → (object_in key salts held (length held) c).tree ≡ tree_after (held_with key salts held c) c.record_size (run_in key salts (length held) c)
 unfolding object_in
 tree_is key salts held c moves =
@@ -114,7 +114,7 @@ changed_stored key salts held c k moves on passes within =
       opened_sealed key d (length held + k) text (held ++ puts_in key salts held (length held) c) there,
     ) refl
 
-opened_grown : (key : KeyValue) (held more : List (List ℕ)) (r : BlockRef) (text : List ℕ) → opened_ref key held r ≡ Some text
+pub opened_grown : (key : KeyValue) (held more : List (List ℕ)) (r : BlockRef) (text : List ℕ) → opened_ref key held r ≡ Some text
     → opened_ref key (held ++ more) r ≡ Some text
 unfolding opened_ref
 opened_grown key held more r text is = by_found (slice_get held r.addr) refl is
@@ -125,7 +125,7 @@ opened_grown key held more r text is = by_found (slice_get held r.addr) refl is
     by_found None same is = absurd (cc)
     by_found (Some sealed) same is = rw (slice_get-grown held more r.addr sealed same) is
 
-text_grown : (key : KeyValue) (held more : List (List ℕ)) (index : ℕ) (found : Option BlockRef) (stored : Option (List ℕ)) → text_of key held index found ≡ Ok stored
+pub text_grown : (key : KeyValue) (held more : List (List ℕ)) (index : ℕ) (found : Option BlockRef) (stored : Option (List ℕ)) → text_of key held index found ≡ Ok stored
     → text_of key (held ++ more) index found ≡ Ok stored
 unfolding text_of
 text_grown key held more index None stored is = is

@@ -21,7 +21,7 @@ use Rattle.file_blocks.proofs.Ranges.{length-filled}
 
 -- ---- bytes of a text with a piece over it
 
-spliced_before : (old piece : List ℕ) (start p : ℕ) → p < start → get_or (spliced old start piece) p 0 ≡ get_or old p 0
+pub spliced_before : (old piece : List ℕ) (start p : ℕ) → p < start → get_or (spliced old start piece) p 0 ≡ get_or old p 0
 unfolding spliced
 spliced_before old piece start p before =
     let size = length-filled start old in
@@ -29,7 +29,7 @@ spliced_before old piece start p before =
     get_or_append_left (filled start old ++ piece) (drop (start + length piece) old) 0 p (omega (arith, size, both, before))
     ∙ get_or_append_left (filled start old) piece 0 p (omega (arith, size, before)) ∙ filled_at start old p before
 
-spliced_within : (old piece : List ℕ) (start p : ℕ) → start ≤ p → p < start + length piece → get_or (spliced old start piece) p 0 ≡ get_or piece (p - start) 0
+pub spliced_within : (old piece : List ℕ) (start p : ℕ) → start ≤ p → p < start + length piece → get_or (spliced old start piece) p 0 ≡ get_or piece (p - start) 0
 unfolding spliced
 spliced_within old piece start p from to =
     let size = length-filled start old in
@@ -38,7 +38,7 @@ spliced_within old piece start p from to =
     get_or_append_left (filled start old ++ piece) (drop (start + length piece) old) 0 p (omega (arith, size, both, to))
     ∙ ap (λ (n : ℕ). get_or (filled start old ++ piece) n 0) place ∙ get_or-append-add (filled start old) piece (p - start) 0
 
-spliced_behind : (old piece : List ℕ) (start p : ℕ) → start + length piece ≤ p → get_or (spliced old start piece) p 0 ≡ get_or old p 0
+pub spliced_behind : (old piece : List ℕ) (start p : ℕ) → start + length piece ≤ p → get_or (spliced old start piece) p 0 ≡ get_or old p 0
 unfolding spliced
 spliced_behind old piece start p past =
     let size = length-filled start old in
@@ -64,7 +64,7 @@ opened_long Aes128Gcm key iv aad sealed tag text is = gcm_long key iv aad sealed
 opened_long Aes192Gcm key iv aad sealed tag text is = gcm_long key iv aad sealed tag text is
 opened_long Aes256Gcm key iv aad sealed tag text is = gcm_long key iv aad sealed tag text is
 
-ref_long : (key : KeyValue) (held : List (List ℕ)) (r : BlockRef) (text : List ℕ) → opened_ref key held r ≡ Some text → length text ≡ r.size
+pub ref_long : (key : KeyValue) (held : List (List ℕ)) (r : BlockRef) (text : List ℕ) → opened_ref key held r ≡ Some text → length text ≡ r.size
 unfolding opened_ref
 ref_long key held r text is = by_found (slice_get held r.addr) is
   where

@@ -39,7 +39,7 @@ all_ok f first (suc n) each =
     let rest = all_ok f (first + 1) n (λ i low high. each i (omega (arith, low)) (omega (arith, high))) in
     (one.0 ∷ rest.0, rw (one.1, rest.1) refl)
 
-range_ok : (key : KeyValue) (held : List (List ℕ)) (record_size : ℕ) (tree : ObjTree) (from end : ℕ)
+pub range_ok : (key : KeyValue) (held : List (List ℕ)) (record_size : ℕ) (tree : ObjTree) (from end : ℕ)
     → ((i : ℕ) → from / record_size ≤ i → i < from / record_size + count_touched record_size from end → (stored : Option (List ℕ)) × (text_at key held record_size tree i ≡ Ok stored))
     → (bytes : List ℕ) × (object_range key held record_size tree from end ≡ Ok bytes)
 unfolding object_range texts_at
@@ -47,14 +47,14 @@ range_ok key held record_size tree from end each =
     let all = all_ok (text_at key held record_size tree) (from / record_size) (count_touched record_size from end) each in
     (part_of record_size from end all.0, rw all.1 refl)
 
-ok_same : {X E : Type 0} (r : Result X E) (a b : X) → r ≡ Ok a → r ≡ Ok b → a ≡ b
+pub ok_same : {X E : Type 0} (r : Result X E) (a b : X) → r ≡ Ok a → r ≡ Ok b → a ≡ b
 ok_same r a b one two = cc
 
 some_same : {X : Type 0} (o : Option X) (a b : X) → o ≡ Some a → o ≡ Some b → a ≡ b
 some_same o a b one two = cc
 
 -- the byte at a place of a range that was read
-byte_at : (key : KeyValue) (held : List (List ℕ)) (record_size : ℕ) (tree : ObjTree) (from end j : ℕ) (bytes : List ℕ) (stored : Option (List ℕ)) → 0 < record_size
+pub byte_at : (key : KeyValue) (held : List (List ℕ)) (record_size : ℕ) (tree : ObjTree) (from end j : ℕ) (bytes : List ℕ) (stored : Option (List ℕ)) → 0 < record_size
     → object_range key held record_size tree from end ≡ Ok bytes → from + j < end → text_at key held record_size tree ((from + j) / record_size) ≡ Ok stored
     → get_or bytes j 0 ≡ get_or (option_map_or (λ text. text) stored []) ((from + j) % record_size) 0
 byte_at key held record_size tree from end j bytes stored some is within text =
@@ -65,7 +65,7 @@ byte_at key held record_size tree from end j bytes stored some is within text =
     (ok_same (text_at key held record_size tree ((from + j) / record_size)) at.0 stored at.1 text)
 
 -- a block's text, where its walk stays within the tree
-found_text : (key : KeyValue) (held : List (List ℕ)) (record_size : ℕ) (tree : ObjTree) (index : ℕ) (stored : Option (List ℕ)) → index < 32 ^ tree.levels
+pub found_text : (key : KeyValue) (held : List (List ℕ)) (record_size : ℕ) (tree : ObjTree) (index : ℕ) (stored : Option (List ℕ)) → index < 32 ^ tree.levels
     → text_at key held record_size tree index ≡ Ok stored
     → (found : Option BlockRef) × (ref_in held record_size tree index ≡ Ok found) × (text_of key held index found ≡ Ok stored)
 unfolding text_at
@@ -80,7 +80,7 @@ found_text key held record_size tree index stored within is =
     by_walk (Err failed) same in_tree is = absurd (cc)
 
 -- what a new text is made of
-text_parts : (key : KeyValue) (held : List (List ℕ)) (w : Write) (index : ℕ) (text : List ℕ) → new_text key held w index ≡ Ok text
+pub text_parts : (key : KeyValue) (held : List (List ℕ)) (w : Write) (index : ℕ) (text : List ℕ) → new_text key held w index ≡ Ok text
     → (taken : List ℕ) × (taken_by key held w index ≡ Ok taken) × (text ≡ text_over w index taken)
 unfolding new_text
 text_parts key held w index text is = by_taken (taken_by key held w index) refl is

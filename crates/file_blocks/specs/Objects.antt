@@ -2,7 +2,6 @@
 -- record size is the number of bytes that each block of the object stands for; a block stores at most so many,
 -- and what lies behind them is zeros. A block in a hole is zeros alone.
 use Rattle.std.specs.Prelude.{ℕ, ◌+◌, ◌-◌, ◌*◌, ◌/◌, ◌<◌, ◌≤◌, ◌≡◌, ◌==◌, nat_lt, if◌then◌else◌, List, [], ◌∷◌, ◌++◌, length, take, drop, map, replicate, Option, Some, None, is_some, IfErr, Result, Ok, Err, ⊤}
-use Rattle.std.specs.Int.{div_ceil}
 use Rattle.std.specs.List.{count_by, flat_map, range_with_len, slice_get}
 use Rattle.std.specs.Option.{option_and_then, option_map_or}
 use Rattle.std.specs.Result.{result_map_both}
@@ -14,14 +13,11 @@ use Rattle.indirect_macs.specs.declared.refs.MacError.{MacError}
 use Rattle.indirect_macs.specs.declared.refs.MacError.TheVariants.{MacFailed, ShelfFault, Full, NoMemory}
 use Rattle.indirect_macs.specs.Calls.{fails_within, is_fault}
 use Rattle.indirect_macs.specs.Runs.{levels_for}
+pub use Rattle.indirect_macs.specs.Runs.{blocks_for}
 use Rattle.indirect_macs.specs.Walk.{goes_on, place_of, walk}
 use Rattle.file_blocks.specs.declared.object.Object.{Object}
 
 -- ---- objects
-
--- how many blocks an object of this length has
-abbrev pub blocks_for : (record_size bytes : ℕ) → ℕ
-blocks_for record_size bytes = div_ceil bytes record_size
 
 -- an object has at most 2 ^ 32 bytes, and a tree of the fewest levels with room for its blocks
 pub record IsObject (record_size : ℕ) (object : Object) : Type 0 where
@@ -56,7 +52,8 @@ opened_ref key held r =
 unfoldable pub text_of : KeyValue → (held : List (List ℕ)) → (index : ℕ) → Option BlockRef
     → Result (Option (List ℕ)) MacError
 text_of key held index None = Ok None
-text_of key held index (Some r) = option_map_or (λ text. Ok (Some text)) (opened_ref key held r) (Err (MacFailed 0 index))
+text_of key held index (Some r) =
+    option_map_or (λ text. Ok (Some text)) (opened_ref key held r) (Err (MacFailed 0 index))
 
 -- the walk to a block of a tree
 abbrev pub walk_in : (held : List (List ℕ)) → (record_size : ℕ) → ObjTree → (index : ℕ)

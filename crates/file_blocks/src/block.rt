@@ -1,38 +1,16 @@
 // One block: the walk to it, and what it opens to.
-ghost use Rattle.std.specs.Prelude.{◌≡◌, ◌<◌, ◌≤◌, ◌^◌, ◌+◌, ◌==◌, length, take, Some, IfErr, IfOk, IfSome, OnOk, is_err, slice_get};
-ghost use Rattle.std.specs.Option.{option_eq, option_map};
-ghost use Rattle.shelf_store.specs.ShelfState.{HasToldSizes, counted, is_due};
+ghost use Rattle.std.specs.Prelude.{◌≡◌, ◌<◌, ◌≤◌, ◌^◌, ◌+◌, length, take, Some, IfOk, IfSome};
+ghost use Rattle.std.specs.Option.{option_map};
 ghost use Rattle.file_blocks.specs.Objects.{Gives, IsAtBlock, Reading, block_bytes, text_at, text_of};
 
 use block_crypt::{BlockKey, MAX_BLOCK_LEN, Sealed, open_block};
-use indirect_macs::{BlockRef, MacError, ObjTree, lookup};
-use shelf_store::{Failed, Shelf};
+use indirect_macs::{BlockRef, MacError, ObjTree, lookup, names_block, read};
+use shelf_store::Shelf;
 
 pub(crate) fn fails_at(index: u32) -> MacError
     ensures { result ≡ MacError.MacFailed 0 index }
 {
     MacError::MacFailed { level: 0, index }
-}
-
-// Whether the address of a reference names a block of its size.
-fn names_block<B: Shelf>(shelf: &B, r: &BlockRef) -> bool
-    ensures value { result ≡ option_eq ◌==◌ (slice_get (B.told shelf.now).sizes r.now.addr) (Some r.now.size) }
-    ensures sizes { HasToldSizes (B.told shelf.now) }
-{
-    shelf.size(r.addr) == Some(r.size)
-}
-
-fn read<B: Shelf>(shelf: &mut B, addr: u64, out: &mut [u8]) -> Result<(), MacError>
-    requires { slice_get (B.told shelf.old).sizes addr ≡ Some (length out.old) }
-    ensures due { is_err result ≡ is_due (B.told shelf.old).armed }
-    ensures fault { IfErr result (λ stop. stop ≡ MacError.ShelfFault) }
-    ensures after { B.told shelf.new ≡ counted (B.told shelf.old) }
-    ensures bytes { OnOk result (IfSome (B.told shelf.old).held (λ blocks. slice_get blocks addr ≡ Some out.new)) }
-{
-    match shelf.get(addr, out) {
-        Ok(()) => Ok(()),
-        Err(Failed) => Err(MacError::ShelfFault),
-    }
 }
 
 fn sealed_of(r: &BlockRef) -> Sealed
@@ -69,7 +47,7 @@ pub(crate) fn open_ref<K: BlockKey, B: Shelf>(
     ensures told { IfSome (B.told shelf.old).held (λ held. Gives (λ _. Some out.new)
         (text_of (K.told key.now) held index (Some r.now)) result) }
 {
-    if !names_block(shelf, r) {
+    if !names_block(shelf, r.addr, r.size) {
         return Err(fails_at(index));
     }
     if let Err(stop) = read(shelf, r.addr, out) {
@@ -110,7 +88,8 @@ pub(crate) fn read_block<K: BlockKey, B: Shelf>(
     ensures reading { Reading (tree.now.levels + 1) (IsAtBlock tree.now.levels index) result
         (B.told shelf.old) (B.told shelf.new) }
     ensures size { IfOk result (λ stored. IfSome stored (λ size. size ≤ block)) }
-    ensures bytes { IfOk result (λ stored. out.new ≡ block_bytes block (option_map (λ size. take size out.new) stored)) }
+    ensures bytes { IfOk result (λ stored. out.new
+        ≡ block_bytes block (option_map (λ size. take size out.new) stored)) }
     ensures told { IfSome (B.told shelf.old).held (λ held. Gives (option_map (λ size. take size out.new))
         (text_at (K.told key.now) held block tree.now index) result) }
 {
@@ -139,7 +118,8 @@ fn read_ref<K: BlockKey, B: Shelf>(
     ensures len { length out.new ≡ block }
     ensures reading { Reading 1 (IsAtBlock 0 index) result (B.told shelf.old) (B.told shelf.new) }
     ensures size { IfOk result (λ stored. IfSome stored (λ size. size ≤ block)) }
-    ensures bytes { IfOk result (λ stored. out.new ≡ block_bytes block (option_map (λ size. take size out.new) stored)) }
+    ensures bytes { IfOk result (λ stored. out.new
+        ≡ block_bytes block (option_map (λ size. take size out.new) stored)) }
     ensures told { r.now.size ≤ block
         → IfSome (B.told shelf.old).held (λ held. Gives (option_map (λ size. take size out.new))
         (text_of (K.told key.now) held index (Some r.now)) result) }

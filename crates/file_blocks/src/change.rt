@@ -47,23 +47,6 @@ pub struct Wrote {
     pub last_number: Option<u64>,
 }
 
-/// The least number of levels of at least 1 with room for so many blocks.
-pub(crate) fn levels_for(blocks: u32) -> u8
-    ensures { result ≡ levels_for blocks }
-{
-    if blocks <= 32 {
-        1
-    } else if blocks <= 1024 {
-        2
-    } else if blocks <= 32_768 {
-        3
-    } else if blocks <= 1_048_576 {
-        4
-    } else {
-        5
-    }
-}
-
 // The new tree, with these references in it.
 fn new_tree<B: Shelf>(
     alloc: Global,
@@ -93,15 +76,9 @@ fn new_tree<B: Shelf>(
         return Ok(plan.tree);
     }
     let blocks = blocks_for(plan.block, plan.length);
-    match replace_run(
+    replace_run(
         alloc, &plan.tree, shelf, blocks, plan.first, refs, plan.block,
-    ) {
-        Ok(tree) => Ok(ObjTree {
-            levels: levels_for(blocks),
-            top: tree.top,
-        }),
-        Err(stop) => Err(stop),
-    }
+    )
 }
 
 // Seals and puts the texts, and then the nodes over them.

@@ -114,6 +114,7 @@ pub fn bytes_by_hand()
     ensures behind { spliced (1 ∷ []) 3 (8 ∷ 9 ∷ []) ≡ 1 ∷ 0 ∷ 0 ∷ 8 ∷ 9 ∷ [] }
     ensures blocks { (blocks_for 512 0 ≡ 0) × (blocks_for 512 512 ≡ 1) × (blocks_for 512 513 ≡ 2) }
     ensures touched { (count_touched 512 5 5 ≡ 0) × (count_touched 512 511 513 ≡ 2) × (count_touched 512 512 1024 ≡ 1) }
-    ensures part { part_of 4 6 18 (Some (1 ∷ 2 ∷ 3 ∷ []) ∷ None ∷ Some (4 ∷ 5 ∷ 6 ∷ 7 ∷ []) ∷ Some (8 ∷ 9 ∷ 10 ∷ 11 ∷ []) ∷ [])
+    ensures part { part_of 4 6 18
+        (Some (1 ∷ 2 ∷ 3 ∷ []) ∷ None ∷ Some (4 ∷ 5 ∷ 6 ∷ 7 ∷ []) ∷ Some (8 ∷ 9 ∷ 10 ∷ 11 ∷ []) ∷ [])
         ≡ 3 ∷ 0 ∷ 0 ∷ 0 ∷ 0 ∷ 0 ∷ 4 ∷ 5 ∷ 6 ∷ 7 ∷ 8 ∷ 9 ∷ [] }
 {}

@@ -10,6 +10,7 @@ mod change;
 mod laws;
 mod new_texts;
 mod object;
+mod object_laws;
 mod pieces;
 mod put;
 mod read;
@@ -26,6 +27,11 @@ pub use laws::{
     writes_change_their_bytes_alone,
 };
 pub use object::Object;
+pub use object_laws::{
+    changes_end_within, changes_fit, changes_lead_to_their_references, cuts_fill_objects,
+    new_texts_are_bytes, objects_by_hand, objects_have_the_bytes_of_their_references,
+    writes_splice_objects,
+};
 pub use read::{read_range, test_blocks};
 pub use write_error::WriteError;
 pub use writes::{cut_to, write_range};

@@ -7,9 +7,9 @@ ghost use Rattle.indirect_macs.specs.Steps.{HasPut, Puts};
 ghost use Rattle.file_blocks.specs.Changes.{HasDraws, HasSealed, Seals, after_draws, last_number, next_draw, ref_under, refs_to, sealed_texts, sealed_under};
 
 use block_crypt::{BlockKey, MAX_BLOCK_LEN, Sealed, seal_block};
-use indirect_macs::{BlockRef, MacError};
+use indirect_macs::{BlockRef, MacError, put};
 use salt_rotation::{MAX_DRAWS, Salts};
-use shelf_store::{Shelf, ShelfError};
+use shelf_store::Shelf;
 use std::alloc::Global;
 
 /// New texts of blocks that lie one after another.
@@ -32,22 +32,6 @@ pub(crate) trait Texts {
 pub(crate) struct Placed {
     pub refs: Vec<Option<BlockRef>>,
     pub last_number: Option<u64>,
-}
-
-// Puts a sealed block at the end of the shelf.
-fn put<B: Shelf>(shelf: &mut B, block: &[u8]) -> Result<u64, MacError>
-    ensures address { IfOk result (λ address. address ≡ length (B.told shelf.old).sizes) }
-    ensures stays { OnErr result (B.told shelf.new ≡ counted (B.told shelf.old)) }
-    ensures puts { (reads : ℕ) (before : List (List ℕ)) (start : ShelfState)
-        → HasPut reads before start (B.told shelf.old)
-        → Puts reads (before ++ block.now ∷ []) result start (B.told shelf.new) }
-{
-    match shelf.put(block) {
-        Ok(addr) => Ok(addr),
-        Err(ShelfError::Fault) => Err(MacError::ShelfFault),
-        Err(ShelfError::Full) => Err(MacError::Full),
-        Err(ShelfError::NoMemory) => Err(MacError::NoMemory),
-    }
 }
 
 fn ref_to(size: u32, addr: u64, sealed: &Sealed) -> BlockRef

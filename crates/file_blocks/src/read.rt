@@ -1,9 +1,10 @@
 // Reading and testing the blocks of an object.
-ghost use Rattle.std.specs.Prelude.{◌≡◌, ◌<◌, ◌≤◌, ◌^◌, ◌+◌, ◌-◌, ◌*◌, ◌++◌, [], length, IfErr, IfOk, IfSome, OnOk};
+ghost use Rattle.std.specs.Prelude.{◌≡◌, ◌<◌, ◌≤◌, ◌^◌, ◌+◌, ◌-◌, ◌*◌, [], length, IfOk, IfSome, OnOk};
 ghost use Rattle.file_blocks.specs.Objects.{Gives, IsInRange, IsObject, Reading, blocks_for, count_touched, first_touched, object_range, tested_blocks};
 
 use crate::block::read_block;
 use crate::object::Object;
+use crate::text::append;
 use block_crypt::BlockKey;
 use indirect_macs::{MacError, ObjTree};
 use shelf_store::Shelf;
@@ -42,16 +43,6 @@ fn count_touched(block: u32, from: u64, end: u64) -> u32
         ((end - 1) / u64::from(block) - from / u64::from(block)) as u32 + 1
     } else {
         0
-    }
-}
-
-fn append(list: &mut Vec<u8>, more: &[u8]) -> Result<(), MacError>
-    ensures all { IfOk result (λ _. list.new.items ≡ list.old.items ++ more.now) }
-    ensures stop { IfErr result (λ stop. stop ≡ MacError.NoMemory) }
-{
-    match list.extend_from_slice(more) {
-        Ok(()) => Ok(()),
-        Err(_) => Err(MacError::NoMemory),
     }
 }
 

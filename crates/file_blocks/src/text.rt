@@ -9,7 +9,8 @@ use crate::taken::Taken;
 use crate::write::Write;
 use indirect_macs::MacError;
 
-fn append(list: &mut Vec<u8>, more: &[u8]) -> Result<(), MacError>
+/// Adds bytes. `NoMemory` is its only error.
+pub(crate) fn append(list: &mut Vec<u8>, more: &[u8]) -> Result<(), MacError>
     ensures all { IfOk result (λ _. list.new.items ≡ list.old.items ++ more.now) }
     ensures stop { IfErr result (λ stop. stop ≡ MacError.NoMemory) }
 {

@@ -8,7 +8,7 @@ ghost use Rattle.file_blocks.specs.Outcomes.{IsNoted, IsWrote};
 ghost use Rattle.file_blocks.specs.WriteFields.{write_of, write_to};
 ghost use Rattle.file_blocks.specs.Writes.{change_of_cut, change_of_length, change_of_write, count_of, length_after};
 
-use crate::change::{Plan, Wrote, change_object, levels_for};
+use crate::change::{Plan, Wrote, change_object};
 use crate::new_texts::{CutTexts, WriteTexts};
 use crate::object::Object;
 use crate::pieces::first_of;
@@ -17,6 +17,7 @@ use crate::taken::{read_cut, read_write};
 use crate::write::Write;
 use crate::write_error::WriteError;
 use block_crypt::BlockKey;
+use indirect_macs::levels_for;
 use salt_rotation::Salts;
 use shelf_store::Shelf;
 use std::alloc::Global;

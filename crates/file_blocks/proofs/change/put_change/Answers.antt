@@ -6,8 +6,10 @@ use Rattle.indirect_macs.specs.declared.refs.ObjTree.{ObjTree}
 use Rattle.file_blocks.specs.declared.change.Wrote.{Wrote}
 use Rattle.file_blocks.specs.declared.put.Placed.{Placed}
 use Rattle.file_blocks.specs.ChangeFields.{change_of}
+use Rattle.file_blocks.specs.Objects.{blocks_for}
+use Rattle.file_blocks.proofs.Ranges.{few_blocks}
 use Rattle.file_blocks.proofs.Sealing.{length-refs, sealed_all}
-use Rattle.file_blocks.proofs.Changing.{change_err, change_ok, changed_stop, for_held, is_wrote, leaving_err, leaving_ok, leaving_stop, refs_sized}
+use Rattle.file_blocks.proofs.Changing.{change_err, change_ok, changed_stop, for_held, is_wrote, leaving_err, leaving_ok, leaving_stop, nodes_few, refs_sized}
 use Rattle.file_blocks.proofs.change.put_change.Goals as goal
 
 pub returns-in-Err-clause-leaving : goal.returns-in-Err-clause-leaving
@@ -34,7 +36,13 @@ new_tree-requires-clause-sizes g c =
 
 pub returns-in-Err-new_tree-clause-leaving : goal.returns-in-Err-new_tree-clause-leaving
 returns-in-Err-new_tree-clause-leaving g c =
-    leaving_err {X = Wrote} {Y = ObjTree} (g.K.BlockKey.told c.args.key.now) (g.T.Texts.told c.args.texts.now) c.in-Err-new_tree.stop _ _ _ (g.B.Shelf.told c.put_texts.new.shelf) _ _ _ c.requires.draws
+    let plan = c.args.plan.now in
+    let size : length c.as_slice.result.now ≡ length (g.T.Texts.told c.args.texts.now) =
+    ap length (c.as_slice.ensures.value ∙ c.in-Ok.ensures.refs) ∙ length-refs _ _ _ _ in
+    leaving_err {X = Wrote} {Y = ObjTree} (g.K.BlockKey.told c.args.key.now) (g.T.Texts.told c.args.texts.now) c.in-Err-new_tree.stop _ _ _ (g.B.Shelf.told c.put_texts.new.shelf) _ _ _
+    (nodes_few plan.tree (blocks_for plan.block plan.length) plan.first c.as_slice.result.now (g.T.Texts.told c.args.texts.now)
+    c.requires.above (few_blocks plan.block plan.length c.requires.least c.requires.bytes) c.requires.within size)
+    c.requires.draws
     (sealed_all _ _ c.in-Ok.placed _ _ _ _ c.in-Ok.ensures.seals) c.in-Err-new_tree.ensures.changes
 
 pub returns-in-Err-new_tree-clause-told : goal.returns-in-Err-new_tree-clause-told
@@ -46,7 +54,13 @@ returns-in-Err-new_tree-clause-told g c =
 
 pub returns-clause-leaving : goal.returns-clause-leaving
 returns-clause-leaving g c =
-    leaving_ok {X = Wrote} {Y = ObjTree} (g.K.BlockKey.told c.args.key.now) (g.T.Texts.told c.args.texts.now) _ c.in-Ok-new_tree.tree _ _ _ (g.B.Shelf.told c.put_texts.new.shelf) _ _ _ c.requires.draws
+    let plan = c.args.plan.now in
+    let size : length c.as_slice.result.now ≡ length (g.T.Texts.told c.args.texts.now) =
+    ap length (c.as_slice.ensures.value ∙ c.in-Ok.ensures.refs) ∙ length-refs _ _ _ _ in
+    leaving_ok {X = Wrote} {Y = ObjTree} (g.K.BlockKey.told c.args.key.now) (g.T.Texts.told c.args.texts.now) _ c.in-Ok-new_tree.tree _ _ _ (g.B.Shelf.told c.put_texts.new.shelf) _ _ _
+    (nodes_few plan.tree (blocks_for plan.block plan.length) plan.first c.as_slice.result.now (g.T.Texts.told c.args.texts.now)
+    c.requires.above (few_blocks plan.block plan.length c.requires.least c.requires.bytes) c.requires.within size)
+    c.requires.draws
     (sealed_all _ _ c.in-Ok.placed _ _ _ _ c.in-Ok.ensures.seals) c.in-Ok-new_tree.ensures.changes
 
 pub returns-clause-told : goal.returns-clause-told

@@ -16,4 +16,4 @@ returns-clause-told g c =
     (λ held change. Changed {X = Wrote} (λ wrote. wrote.object) key held (Ok change) c.change_object.result (g.B.Shelf.told c.args.shelf.now) (g.B.Shelf.told c.change_object.new.shelf) c.args.salts.now c.change_object.new.salts)
     key c.args.salts.now (length (g.B.Shelf.told c.args.shelf.now).sizes) c.args.block object.length c.args.new_length object.tree (c.levels_for.result == object.tree.levels)
     (g.B.Shelf.told c.args.shelf.now).held (omega arith) levels.0 c.requires.object.levels c.requires.order
-    (ap (λ n. n == object.tree.levels) (c.levels_for.ensures ∙ ap levels_for c.blocks_for.ensures.value)) c.change_object.ensures.told
+    (ap (λ n. n == object.tree.levels) (c.levels_for.ensures.value ∙ ap levels_for c.blocks_for.ensures.value)) c.change_object.ensures.told
