@@ -91,7 +91,7 @@ entries_bound record_size table entries is form =
 in_form_is_short : (name : List ℕ) (good : ℕ) → short_fault_at name (min 64 good) ≡ None → length name ≤ 64
 in_form_is_short name good none = grind (arith, nat_tests)
 
-text_bound_each : (objects : ℕ → Bool) (entries : List DirectoryEntry) → All (IsEntry objects) entries → length (directory_text entries) ≤ 69 * length entries
+pub text_bound_each : (objects : ℕ → Bool) (entries : List DirectoryEntry) → All (IsEntry objects) entries → length (directory_text entries) ≤ 69 * length entries
 text_bound_each objects [] all = omega arith
 text_bound_each objects (entry ∷ entries) all =
     let good : IsEntry objects entry = All-head (IsEntry objects) entry entries all in
