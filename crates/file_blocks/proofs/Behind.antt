@@ -1,5 +1,5 @@
 -- What changes are, and that what they store ends within the new object.
-use Rattle.std.proofs.Common.{◌≡◌, ℕ, zero, suc, ◌+◌, ◌-◌, ◌*◌, ◌/◌, ◌<◌, ◌≤◌, Bool, true, false, ◌==◌, ◌&&◌, nat_le, nat_lt, List, [], ◌∷◌, ◌++◌, length, get_or, take, drop, refl, sym, ap, subst, ◌∙◌, inl, inr, arith, length-drop, Option, Some, None, Result, Ok, Err, if◌then◌else◌}
+use Rattle.std.proofs.Common.{◌≡◌, ℕ, zero, ◌+◌, ◌-◌, ◌*◌, ◌<◌, ◌≤◌, Bool, true, false, ◌==◌, nat_le, nat_lt, List, [], ◌∷◌, length, get_or, take, drop, refl, sym, ap, subst, ◌∙◌, inl, inr, arith, length-drop, Option, Some, None, Result, Ok, Err, if◌then◌else◌}
 use Rattle.std.specs.Prelude.{◌⊎◌, IfSome, slice_index_or}
 use Rattle.std.specs.Option.{option_map_or}
 use Rattle.std.specs.Result.{result_map_both}
@@ -12,9 +12,8 @@ use Rattle.indirect_macs.specs.declared.refs.BlockRef.{BlockRef}
 use Rattle.indirect_macs.specs.declared.refs.ObjTree.{ObjTree}
 use Rattle.indirect_macs.specs.declared.refs.MacError.{MacError}
 use Rattle.indirect_macs.specs.declared.refs.MacError.TheVariants.{MacFailed}
-use Rattle.indirect_macs.specs.Walk.{goes_on}
 use Rattle.file_blocks.specs.declared.object.Object.{Object}
-use Rattle.file_blocks.specs.Changes.{Change, after_draws, next_draw, ref_in, ref_under, refs_to}
+use Rattle.file_blocks.specs.Changes.{Change, after_draws, next_draw, ref_in, ref_under}
 use Rattle.file_blocks.specs.Objects.{blocks_for, opened_ref}
 use Rattle.file_blocks.specs.Wholes.{EndsWithin, HasRefs, refs_behind}
 use Rattle.file_blocks.specs.WriteFields.{write_to}

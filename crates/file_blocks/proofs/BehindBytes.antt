@@ -1,7 +1,6 @@
 -- The bytes of an object behind a write or a cut, by its references.
-use Rattle.std.proofs.Common.{◌≡◌, ℕ, zero, suc, ◌+◌, ◌-◌, ◌*◌, ◌/◌, ◌<◌, ◌≤◌, List, [], ◌∷◌, ◌++◌, length, get_or, take, refl, sym, ap, subst, ◌∙◌, inl, inr, arith, Option, Some, None, Result, Ok, Err}
-use Rattle.std.specs.Prelude.{◌⊎◌, IfSome, max, slice_index_or}
-use Rattle.std.specs.List.{slice_get}
+use Rattle.std.proofs.Common.{◌≡◌, ℕ, zero, ◌+◌, ◌-◌, ◌*◌, ◌<◌, ◌≤◌, List, [], ◌∷◌, ◌++◌, length, get_or, take, refl, sym, ap, subst, ◌∙◌, inl, inr, arith, Option, Some, None, Ok}
+use Rattle.std.specs.Prelude.{◌⊎◌, IfSome, slice_index_or}
 use Rattle.std.specs.Option.{option_map_or}
 use Rattle.std.proofs.lemmas.Bool.{cases_lt}
 use Rattle.std.proofs.lemmas.List.{get_or-take, get_or_past, length-take}
@@ -10,14 +9,13 @@ use Rattle.std.proofs.lemmas.Grind.{div_ceil_times}
 use Rattle.block_crypt.specs.Blocks.{KeyValue}
 use Rattle.salt_rotation.specs.SaltState.{SaltState}
 use Rattle.indirect_macs.specs.declared.refs.BlockRef.{BlockRef}
-use Rattle.indirect_macs.specs.declared.refs.MacError.{MacError}
 use Rattle.indirect_macs.proofs.Growth.{slice_get-grown}
 use Rattle.file_blocks.specs.declared.object.Object.{Object}
-use Rattle.file_blocks.specs.Changes.{Change, after_draws, next_draw, ref_in, ref_under, sealed_texts, sealed_under}
+use Rattle.file_blocks.specs.Changes.{Change, after_draws, next_draw, ref_under, sealed_texts, sealed_under}
 use Rattle.file_blocks.specs.Objects.{blocks_for, filled, spliced, text_of}
 use Rattle.file_blocks.specs.Wholes.{EndsWithin, HasRefs, bytes_of_refs, refs_behind}
 use Rattle.file_blocks.specs.WriteFields.{write_to}
-use Rattle.file_blocks.specs.Writes.{Write, change_of_cut, change_of_length, change_of_write, change_to, count_of, cut_by, end_of, first_of, front_at, last_kept, last_of, left_of, length_after, new_texts, taken_by, text_over}
+use Rattle.file_blocks.specs.Writes.{Write, change_of_cut, change_of_length, change_of_write, change_to, cut_by, end_of, first_of, front_at, last_kept, last_of, left_of, length_after, new_texts, taken_by, text_over}
 use Rattle.file_blocks.proofs.Behind.{cut_cases, cut_sized, front_none, front_some, left_sized, ref_cases, touched_text, write_cases, write_sized}
 use Rattle.file_blocks.proofs.Bytes.{filled_at}
 use Rattle.file_blocks.proofs.NewTexts.{IsWrite, counted_up}

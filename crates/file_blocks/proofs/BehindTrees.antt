@@ -1,5 +1,5 @@
 -- The bytes of an object behind a write or a cut, by its tree.
-use Rattle.std.proofs.Common.{◌≡◌, ℕ, ◌<◌, ◌≤◌, List, ◌++◌, length, sym, subst, ◌∙◌, arith, Option, Some, Result, Ok}
+use Rattle.std.proofs.Common.{◌≡◌, ℕ, ◌<◌, List, ◌++◌, length, sym, subst, arith, Option, Some, Ok}
 use Rattle.block_crypt.specs.Blocks.{KeyValue}
 use Rattle.salt_rotation.specs.SaltState.{SaltState}
 use Rattle.indirect_macs.specs.declared.refs.BlockRef.{BlockRef}

@@ -18,7 +18,7 @@ use Rattle.indirect_macs.specs.Calls.{fails_within, is_fault}
 use Rattle.indirect_macs.specs.Entries.{is_size}
 use Rattle.indirect_macs.specs.Replaced.{Changes, Ended, Replaced, with_blocks}
 use Rattle.indirect_macs.specs.RunFields.{run_for}
-use Rattle.indirect_macs.specs.Runs.{Run, Old, FirstFails, Passes, levels_for, most_puts, most_reads, old_of, puts_of, tree_of, walk_to}
+use Rattle.indirect_macs.specs.Runs.{Run, FirstFails, Passes, levels_for, most_puts, most_reads, old_of, puts_of, tree_of, walk_to}
 use Rattle.indirect_macs.specs.Steps.{Puts, PutEnded}
 use Rattle.indirect_macs.specs.Walk.{walk}
 use Rattle.indirect_macs.proofs.Growth.{walk-grown}

@@ -1,45 +1,34 @@
 -- The references and the nodes that a change puts fit, and what is put is bytes.
-use Rattle.std.proofs.Common.{◌≡◌, ℕ, zero, suc, ◌+◌, ◌-◌, ◌*◌, ◌/◌, ◌^◌, ◌<◌, ◌≤◌, Bool, true, false, ◌==◌, nat_lt, List, [], ◌∷◌, ◌++◌, length, refl, sym, ap, subst, ◌∙◌, inl, inr, arith, length-append, Option, Some, None, Result, Ok, Err, if◌then◌else◌}
-use Rattle.std.specs.Prelude.{◌⊎◌, All, IfSome, slice_get, slice_index_or}
-use Rattle.std.specs.Int.{w32, to_le_bytes, byte_at, bytes_low_first}
+use Rattle.std.proofs.Common.{◌≡◌, ℕ, zero, suc, ◌+◌, ◌-◌, ◌*◌, ◌/◌, ◌<◌, Bool, true, false, ◌==◌, List, [], ◌∷◌, length, refl, sym, subst, inl, inr, arith, Option, Some, None, Ok, if◌then◌else◌}
+use Rattle.std.specs.Prelude.{All, slice_get}
+use Rattle.std.specs.Int.{w32, to_le_bytes, bytes_low_first}
 use Rattle.std.specs.Option.{option_and_then, option_map_or}
-use Rattle.std.specs.Result.{result_map_both}
 use Rattle.std.specs.Str.{bytes_eq}
 use Rattle.std.proofs.lemmas.Bool.{cases_lt}
-use Rattle.std.proofs.lemmas.List.{length-take}
-use Rattle.std.proofs.lemmas.List.Elements.{All-nil, All-cons, All-head, All-tail, All-get_or, All-from_get_or}
-use Rattle.block_crypt.specs.Blocks.{KeyValue, block_key, opened_block, sealed_block}
-use Rattle.block_crypt.proofs.SealedBytes.{sealed_text-bytes, sealed_tag-bytes}
+use Rattle.std.proofs.lemmas.List.Elements.{All-nil, All-cons, All-from_get_or}
+use Rattle.block_crypt.specs.Blocks.{KeyValue, block_key, opened_block}
+use Rattle.block_crypt.proofs.SealedBytes.{sealed_text-bytes}
 use Rattle.dataset_tree.specs.declared.kinds.Suite.{Suite}
 use Rattle.dataset_tree.specs.declared.kinds.Suite.TheVariants.{Aes128Gcm, Aes192Gcm, Aes256Gcm}
 use Rattle.gcm_seal.specs.Gcm.{gcm_open, gcm_seal, gcm_tag, gcm_text}
 use Rattle.wrapped_keys.specs.Aead.{aead_open, aead_seal}
-use Rattle.wrapped_keys.proofs.WrappingLaws.{length-aead_tag}
 use Rattle.salt_rotation.specs.SaltState.{SaltState}
 use Rattle.salt_rotation.specs.Salts.{iv_of, salt_of}
 use Rattle.salt_rotation.specs.SeedWords.{bytes_of_words, seed_bytes, seed_word}
 use Rattle.salt_rotation.proofs.KeyStream.{length-seed_bytes}
 use Rattle.indirect_macs.specs.declared.refs.BlockRef.{BlockRef}
-use Rattle.indirect_macs.specs.declared.refs.NodeRef.{NodeRef}
-use Rattle.indirect_macs.specs.declared.refs.MacError.{MacError}
-use Rattle.indirect_macs.specs.declared.refs.MacError.TheVariants.{MacFailed}
-use Rattle.indirect_macs.specs.Entries.{IsBlockRef, IsNodeRef}
-use Rattle.indirect_macs.specs.Trees.{AreBytes, HasBytes, HoldsBytes}
-use Rattle.indirect_macs.specs.Walk.{walk}
-use Rattle.indirect_macs.proofs.FoldOfTree.{power_least}
+use Rattle.indirect_macs.specs.Trees.{AreBytes, HoldsBytes}
 use Rattle.indirect_macs.proofs.RunBytes.{bytes_append}
 use Rattle.indirect_macs.proofs.Spelling.{bytes_of_part}
 use Rattle.file_blocks.specs.declared.object.Object.{Object}
-use Rattle.file_blocks.specs.Changes.{Change, after_draws, next_draw, ref_in, ref_under, refs_to, sealed_texts, sealed_under}
+use Rattle.file_blocks.specs.Changes.{Change, next_draw}
 use Rattle.file_blocks.specs.Objects.{opened_ref, spliced}
-use Rattle.file_blocks.specs.Wholes.{HasRefs}
-use Rattle.file_blocks.specs.WriteFields.{write_to}
-use Rattle.file_blocks.specs.Writes.{Write, change_of_cut, change_of_write, first_of, front_at, front_from, last_kept, left_of, new_texts, opened_as, piece_in, start_in, taken_by, text_over}
-use Rattle.file_blocks.proofs.Behind.{cut_cases, front_some, stores_long, taken_is, touched_text, write_cases}
-use Rattle.file_blocks.proofs.NewTexts.{Finds, taken_finds}
+use Rattle.file_blocks.specs.Writes.{Write, change_of_cut, change_of_write, first_of, front_at, last_kept, left_of, piece_in, start_in}
+use Rattle.file_blocks.proofs.Behind.{cut_cases, front_some, taken_is, touched_text, write_cases}
+use Rattle.file_blocks.proofs.NewTexts.{taken_finds}
 use Rattle.file_blocks.proofs.Passing.{front_finds}
 use Rattle.file_blocks.proofs.WholeBytes.{Stores}
-use Rattle.file_blocks.proofs.WrittenBytes.{ref_long, spliced_before, spliced_behind, spliced_within}
+use Rattle.file_blocks.proofs.WrittenBytes.{spliced_before, spliced_behind, spliced_within}
 
 -- ---- bytes of draws
 

@@ -1,22 +1,21 @@
 -- The run of references that a change puts into a tree fits.
-use Rattle.std.proofs.Common.{◌≡◌, ℕ, zero, suc, ◌+◌, ◌-◌, ◌*◌, ◌/◌, ◌^◌, ◌<◌, ◌≤◌, Bool, true, false, nat_le, nat_lt, List, [], ◌∷◌, ◌++◌, length, take, refl, sym, ap, subst, ◌∙◌, inl, inr, arith, length-append, Option, Some, None, Result, Ok, Err, if◌then◌else◌}
-use Rattle.std.specs.Prelude.{◌⊎◌, ◌&&◌, All, IfSome, IsTrue, slice_get, slice_index_or}
+use Rattle.std.proofs.Common.{◌≡◌, ℕ, zero, suc, ◌+◌, ◌-◌, ◌*◌, ◌^◌, ◌<◌, ◌≤◌, Bool, true, false, nat_le, nat_lt, List, [], ◌∷◌, length, take, refl, sym, ap, subst, ◌∙◌, inl, inr, arith, length-append, Option, Some, None, Ok, Err, if◌then◌else◌}
+use Rattle.std.specs.Prelude.{◌⊎◌, All, IfSome}
 use Rattle.std.specs.Option.{option_map_or}
 use Rattle.std.specs.Result.{result_map_both}
 use Rattle.std.proofs.lemmas.Bool.{cases_lt}
 use Rattle.std.proofs.lemmas.List.{length-take}
 use Rattle.std.proofs.lemmas.List.Elements.{All-nil, All-cons, All-head, All-tail, All-from_get_or}
 use Rattle.std.proofs.Math.Nat.{div-mul-le_self}
-use Rattle.block_crypt.specs.Blocks.{KeyValue, block_key, sealed_block}
+use Rattle.block_crypt.specs.Blocks.{KeyValue, block_key}
 use Rattle.block_crypt.proofs.SealedBytes.{sealed_text-bytes, sealed_tag-bytes}
 use Rattle.wrapped_keys.proofs.WrappingLaws.{length-aead_tag}
 use Rattle.salt_rotation.specs.SaltState.{SaltState}
 use Rattle.indirect_macs.specs.declared.refs.BlockRef.{BlockRef}
 use Rattle.indirect_macs.specs.declared.refs.NodeRef.{NodeRef}
 use Rattle.indirect_macs.specs.declared.refs.ObjTree.{ObjTree}
-use Rattle.indirect_macs.specs.declared.refs.MacError.{MacError}
 use Rattle.indirect_macs.specs.declared.refs.MacError.TheVariants.{MacFailed}
-use Rattle.indirect_macs.specs.Entries.{IsBlockRef, IsNodeRef, is_size}
+use Rattle.indirect_macs.specs.Entries.{IsBlockRef, IsNodeRef}
 use Rattle.indirect_macs.specs.Runs.{Run, old_of, puts_of}
 use Rattle.indirect_macs.specs.Trees.{AreBytes, HasBytes, HoldsBytes, IsRunOn, held_after}
 use Rattle.indirect_macs.specs.Walk.{walk}
@@ -27,7 +26,7 @@ use Rattle.file_blocks.specs.Changes.{Change, after_draws, held_with, next_draw,
 use Rattle.file_blocks.specs.Objects.{IsObject, blocks_for, opened_ref}
 use Rattle.file_blocks.specs.Wholes.{ChangeFits, HasRefs}
 use Rattle.file_blocks.specs.WriteFields.{write_to}
-use Rattle.file_blocks.specs.Writes.{Write, change_of_cut, change_of_length, change_of_write, change_to, count_of, cut_by, end_of, first_of, front_at, front_from, last_kept, last_of, left_of, length_after, new_texts, opened_as, piece_in, start_in, text_over}
+use Rattle.file_blocks.specs.Writes.{Write, change_of_cut, change_of_length, change_of_write, cut_by, end_of, first_of, front_at, front_from, last_kept, left_of, length_after, new_texts, opened_as, piece_in, start_in}
 use Rattle.file_blocks.proofs.Behind.{cut_cases, front_some, stores_long, taken_is, touched_text, write_cases}
 use Rattle.file_blocks.proofs.Fitting.{drawn_is}
 use Rattle.file_blocks.proofs.Leading.{levels_some}

@@ -1,5 +1,5 @@
 -- Where the tree of an object leads behind a change.
-use Rattle.std.proofs.Common.{◌≡◌, ℕ, ◌+◌, ◌-◌, ◌*◌, ◌^◌, ◌<◌, ◌≤◌, Bool, true, false, nat_lt, List, [], ◌∷◌, ◌++◌, length, refl, sym, ap, subst, ◌∙◌, inl, inr, arith, Option, Some, None, Result, Ok, if◌then◌else◌}
+use Rattle.std.proofs.Common.{◌≡◌, ℕ, ◌+◌, ◌-◌, ◌^◌, ◌<◌, ◌≤◌, Bool, true, false, nat_lt, List, [], ◌++◌, length, refl, sym, ap, subst, ◌∙◌, inl, inr, arith, Option, Some, None, Result, Ok, if◌then◌else◌}
 use Rattle.std.specs.Prelude.{◌⊎◌, max, slice_index_or}
 use Rattle.std.proofs.lemmas.Bool.{cases_lt, eqb-true}
 use Rattle.block_crypt.specs.Blocks.{KeyValue}
@@ -14,14 +14,14 @@ use Rattle.indirect_macs.proofs.Growth.{walk-grown}
 use Rattle.indirect_macs.proofs.RunEntries.{levels_some as least_level}
 use Rattle.indirect_macs.proofs.RunLeads.{leads_before, leads_behind, leads_past, leads_within}
 use Rattle.file_blocks.specs.declared.object.Object.{Object}
-use Rattle.file_blocks.specs.Changes.{Change, after_draws, held_with, next_draw, object_in, puts_in, ref_in, ref_under, refs_to, run_in, sealed_texts}
+use Rattle.file_blocks.specs.Changes.{Change, held_with, object_in, puts_in, ref_in, refs_to, run_in, sealed_texts}
 use Rattle.file_blocks.specs.Objects.{IsObject, blocks_for}
 use Rattle.file_blocks.specs.Wholes.{ChangeFits, HasRefs, held_behind, object_behind, refs_behind}
 use Rattle.file_blocks.specs.WriteFields.{write_to}
-use Rattle.file_blocks.specs.Writes.{Write, change_of_cut, change_of_length, change_of_write, change_to, cut_by, last_kept, length_after}
+use Rattle.file_blocks.specs.Writes.{Write, change_of_cut, change_of_length, change_of_write, cut_by, last_kept, length_after}
 use Rattle.file_blocks.proofs.Behind.{cut_cases, ref_cases, write_cases}
 use Rattle.file_blocks.proofs.Changing.{passes-grown, walk_to-grown}
-use Rattle.file_blocks.proofs.Passing.{blocks_none, blocks_order, blocks_some, cut_passes, write_passes}
+use Rattle.file_blocks.proofs.Passing.{blocks_order, blocks_some, cut_passes, write_passes}
 use Rattle.file_blocks.proofs.Ranges.{has_room}
 use Rattle.file_blocks.proofs.Sealing.{length-refs}
 use Rattle.file_blocks.proofs.Stored.{held_is, refs_at, tree_is}

@@ -15,7 +15,7 @@ use Rattle.indirect_macs.specs.declared.refs.MacError.TheVariants.{MacFailed}
 use Rattle.indirect_macs.specs.Walk.{walk}
 use Rattle.file_blocks.specs.declared.object.Object.{Object}
 use Rattle.file_blocks.specs.Changes.{ref_in}
-use Rattle.file_blocks.specs.Objects.{IsObject, blocks_for, count_touched, opened_ref, text_at, text_of, walk_in}
+use Rattle.file_blocks.specs.Objects.{IsObject, blocks_for, opened_ref, text_at, text_of, walk_in}
 use Rattle.file_blocks.specs.Wholes.{EndsWithin, HasRefs, whole_object}
 use Rattle.file_blocks.proofs.Bytes.{range_at, range_long}
 use Rattle.file_blocks.proofs.NewTexts.{ref_size}

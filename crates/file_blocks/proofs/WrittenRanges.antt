@@ -18,11 +18,11 @@ use Rattle.indirect_macs.specs.declared.refs.MacError.TheVariants.{MacFailed}
 use Rattle.indirect_macs.specs.Runs.{Passes, levels_for}
 use Rattle.indirect_macs.specs.Trees.{IsRunOn}
 use Rattle.indirect_macs.specs.Walk.{goes_on}
-use Rattle.file_blocks.specs.Changes.{Change, held_with, object_in, puts_in, ref_in, refs_to, run_in}
+use Rattle.file_blocks.specs.Changes.{held_with, object_in, puts_in, ref_in, refs_to, run_in}
 use Rattle.file_blocks.specs.Objects.{blocks_for, collected, count_touched, object_range, opened_ref, part_of, text_at, text_of, texts_at, walk_in}
 use Rattle.file_blocks.specs.Writes.{Write, cut_by, front_at, front_from, opened_as, last_kept, left_of, change_to, count_of, end_of, first_of, last_of, length_after, new_text, new_texts, taken_by, text_over}
 use Rattle.file_blocks.proofs.Bytes.{collected_at, range_at, range_long, text_in, texts_of}
-use Rattle.file_blocks.proofs.NewTexts.{IsWrite, counted_up, div_order, in_order}
+use Rattle.file_blocks.proofs.NewTexts.{IsWrite, counted_up, div_order}
 use Rattle.file_blocks.proofs.Passing.{front_finds, front_passes, texts_count, texts_pass}
 use Rattle.file_blocks.proofs.Ranges.{few_blocks, has_room, in_object, touched}
 use Rattle.file_blocks.proofs.Sealing.{length-refs}

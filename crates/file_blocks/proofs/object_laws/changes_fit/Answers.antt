@@ -1,4 +1,4 @@
-use Rattle.std.proofs.Common.{◌≡◌, ℕ, ◌<◌, List, inl, inr, arith}
+use Rattle.std.proofs.Common.{ℕ, ◌<◌, List, inl, inr, arith}
 use Rattle.block_crypt.specs.Blocks.{KeyValue}
 use Rattle.file_blocks.specs.declared.object.Object.{Object}
 use Rattle.file_blocks.specs.Changes.{Change}

@@ -1,4 +1,4 @@
-use Rattle.std.proofs.Common.{◌≡◌, ℕ, ◌<◌, List, Option, inl, inr, arith}
+use Rattle.std.proofs.Common.{ℕ, ◌<◌, List, Option, inl, inr, arith}
 use Rattle.block_crypt.specs.Blocks.{KeyValue}
 use Rattle.salt_rotation.specs.SaltState.{SaltState}
 use Rattle.indirect_macs.specs.declared.refs.BlockRef.{BlockRef}
