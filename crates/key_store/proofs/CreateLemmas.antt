@@ -58,7 +58,7 @@ size_in_form (Some block) given = given
 
 -- ---- the new id
 
-given_below : (t : Datasets) (parent : Option ℕ) → is_none parent ≡ false → length t.rows < 256 → t.last < 4294967295 → id_below t parent ≡ Ok (t.last + 1)
+pub given_below : (t : Datasets) (parent : Option ℕ) → is_none parent ≡ false → length t.rows < 256 → t.last < 4294967295 → id_below t parent ≡ Ok (t.last + 1)
 given_below t None there rows ids = absurd (cc)
 given_below t (Some parent) there rows ids = grind (arith, nat_tests)
 

@@ -7,10 +7,11 @@ pub mod DamageLemmas
 pub mod MappingLemmas
 pub mod SlotLemmas
 pub mod OpenedLemmas
+pub mod ClonedLemmas
+pub mod DestroyLemmas
 pub mod MountLemmas
 pub mod UnloadLemmas
 pub mod UseLemmas
 pub mod SlotLawLemmas
-pub mod SpentLemmas
 pub mod CountLemmas
 pub mod AgreesLemmas

@@ -37,7 +37,7 @@ none_above {X} id (entry ∷ entries) all =
     let other : (entry.0 == id) ≡ false = grind (arith, nat_tests) in
     rw other (none_above id entries (All-tail Above entry entries all))
 
-absent_stays : {X : Type 0} (id : ℕ) (entries : List (ℕ × X)) → at_id id entries ≡ None → without_id id entries ≡ entries
+pub absent_stays : {X : Type 0} (id : ℕ) (entries : List (ℕ × X)) → at_id id entries ≡ None → without_id id entries ≡ entries
 absent_stays id [] absent = refl
 absent_stays id (entry ∷ entries) absent = ⊎_elim (λ (same : (entry.0 == id) ≡ true). absurd (let some : Some entry.1 ≡ None = rw same at absent in cc))
     (λ (other : (entry.0 == id) ≡ false). rw other (ap (λ rest. entry ∷ rest) (absent_stays id entries (rw other at absent)))) (cases_Bool (entry.0 == id))

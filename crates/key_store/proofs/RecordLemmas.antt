@@ -1,8 +1,8 @@
 -- The records as the plain state shows them.
-use Rattle.std.proofs.Common.{◌≡◌, ℕ, ◌<◌, true, false, cond, ◌==◌, nat_lt, List, [], ◌∷◌, length, get_or, map, Some, refl, ap, arith}
+use Rattle.std.proofs.Common.{◌≡◌, ℕ, ◌<◌, true, false, cond, not, ◌==◌, nat_lt, List, [], ◌∷◌, length, get_or, map, Some, refl, ap, arith}
 use Rattle.std.proofs.lemmas.List.{get_or-map, length-map}
 use Rattle.std.specs.Option.{option_map}
-use Rattle.encryption_roots.specs.ById.{IsRisingById, at_id, with_id}
+use Rattle.encryption_roots.specs.ById.{IsRisingById, at_id, with_id, without_id}
 use Rattle.key_machine.specs.Plain.{Stored}
 use Rattle.key_store.specs.declared.state.FamilyRecord.{FamilyRecord}
 use Rattle.key_store.specs.State.{stored_of, stored_records}
@@ -36,4 +36,13 @@ with_id-stored id value (entry ∷ records) =
         | true ↦ refl
         | false ↦ refl
       ]
+    ]
+
+pub without_id-stored : (id : ℕ) (records : List (ℕ × FamilyRecord)) → stored_records (without_id id records) ≡ without_id id (stored_records records)
+without_id-stored id [] = refl
+without_id-stored id (entry ∷ records) =
+    let rest : stored_records (without_id id records) ≡ without_id id (stored_records records) = without_id-stored id records in
+    elim (entry.0 == id) as (λ b. stored_records (cond (not b) (entry ∷ without_id id records) (without_id id records)) ≡ cond (not b) (shown entry ∷ without_id id (stored_records records)) (without_id id (stored_records records))) [
+      | true ↦ rest
+      | false ↦ ap (λ (tail : List (ℕ × Stored)). shown entry ∷ tail) rest
     ]

@@ -58,7 +58,7 @@ of_kept {X} P test (x ∷ xs) all =
     let rest : All P (filter test xs) = rw fails at all in
     All-cons Kept x xs (λ passes. absurd (let both : true ≡ false = sym passes ∙ fails in cc)) (of_kept P test xs rest)) (cases_Bool (test x))
 
-fewer_or_same : {X : Type 0} (test : X → Bool) (xs : List X) → length (filter test xs) ≤ length xs
+pub fewer_or_same : {X : Type 0} (test : X → Bool) (xs : List X) → length (filter test xs) ≤ length xs
 fewer_or_same test [] = omega arith
 fewer_or_same test (x ∷ xs) =
     let rest : length (filter test xs) ≤ length xs = fewer_or_same test xs in

@@ -7,7 +7,7 @@ use Rattle.std.proofs.lemmas.List.Elements.{All-head, All-tail}
 use Rattle.std.proofs.lemmas.List.Sums.{sum_by-cons, count_by-le-length}
 use Rattle.std.specs.Prelude.{min, unwrap_or}
 use Rattle.std.specs.List.{All, AllByRecursion, count_by, filter, list_any}
-use Rattle.encryption_roots.specs.ById.{IsRisingById, at_id, with_id}
+use Rattle.encryption_roots.specs.ById.{IsRisingById, at_id, with_id, without_id}
 use Rattle.encryption_roots.specs.Owners.{family}
 use Rattle.encryption_roots.proofs.ByIdLemmas.{Rises, rises, rising}
 use Rattle.key_machine.specs.Mount.{with_mounted, with_mapping}
@@ -57,6 +57,13 @@ module _ {X : Type 0} where
           | false ↦ refl
         ]
       ]
+
+  pub counted_without : (users : ℕ → ℕ) (id : ℕ) (entries : List (ℕ × X)) → without_id id (counted_by users entries) ≡ counted_by users (without_id id entries)
+  counted_without users id [] = refl
+  counted_without users id (entry ∷ entries) =
+      let rest : without_id id (counted_by users entries) ≡ counted_by users (without_id id entries) = counted_without users id entries in
+      ⊎_elim (λ (gone : (entry.0 == id) ≡ true). rw gone rest)
+      (λ (kept : (entry.0 == id) ≡ false). rw kept (ap (λ (tail : List (ℕ × ℕ)). (entry.0, users entry.0) ∷ tail) rest)) (cases_Bool (entry.0 == id))
 
   pub counted_alike : (one other : ℕ → ℕ) (entries : List (ℕ × X)) → ((id : ℕ) → one id ≡ other id) → counted_by one entries ≡ counted_by other entries
   counted_alike one other [] same = refl

@@ -16,6 +16,7 @@ use Rattle.key_store.specs.declared.needs.Needs.{Needs}
 use Rattle.key_store.specs.declared.state.FamilyRecord.{FamilyRecord}
 use Rattle.key_ciphers.specs.Ciphers.{ciphers}
 pub use Rattle.key_ciphers.specs.Calls.{stepped, AnswersDone}
+pub use Rattle.key_reads.specs.Reads.{GivesRoot}
 
 -- what a command wants, or why the state refuses it
 abbrev pub needs_of : Wanted → Needs
@@ -27,11 +28,6 @@ needed_unless p command (Some why) = Err why
 
 abbrev pub needed : Plain → KeyCmd → Result Needs Why
 needed p command = needed_unless p command (refusal_of p command)
-
--- the root that a command is about, or why the state refuses it
-abbrev pub GivesRoot : Result ℕ Why → (refusal : Option Why) → (found : Option ℕ) → Type 0
-GivesRoot (Ok root) refusal found = (refusal ≡ None) × (found ≡ Some root)
-GivesRoot (Err why) refusal found = refusal ≡ Some why
 
 -- the key that is told, or the first refusal for it: a fault of the material, else a record that doesn't open
 abbrev pub key_unless : List ℕ → Option Why → Option ℕ → Result (List ℕ) Why

@@ -3,4 +3,3 @@ pub mod Calls
 pub mod NewRoot
 pub mod Agrees
 pub mod Counts
-pub mod Spent

@@ -1,68 +1,68 @@
-// Clones, and datasets that go.
-ghost use Rattle.std.specs.Prelude.{◌≡◌};
-ghost use Rattle.std.specs.Option.{option_copied};
-ghost use Rattle.std.specs.List.{list_any};
-ghost use Rattle.dataset_tree.specs.Tree.{is_needed};
-ghost use Rattle.key_machine.specs.Clone.{clone_cases};
-ghost use Rattle.key_machine.specs.Destroy.{destroy_cases};
-ghost use Rattle.key_machine.specs.Refusals.{first_of};
+// Clones.
+ghost use Rattle.std.specs.Prelude.{◌≡◌, ◌+◌, None, Some, Ok, IfOk, OnOk, OnErr};
+ghost use Rattle.dataset_tree.specs.Tree.{IsDatasetOrNone, id_named, new_id, with_row};
+ghost use Rattle.dataset_tree.specs.declared.kinds.Kind.TheVariants.{Crypt};
+ghost use Rattle.encryption_roots.specs.declared.command.KeyCmd.TheVariants as commands;
+ghost use Rattle.key_machine.specs.Step.{refusal_of, key_step};
+ghost use Rattle.key_machine.specs.Told.{nothing_told};
+ghost use Rattle.mapping_words.specs.Told.{Told};
+ghost use Rattle.key_store.specs.Agrees.{Agrees};
+ghost use Rattle.key_store.specs.Calls.{AnswersMade, state_after};
 
-use crate::needs::{MAX_DATASETS, MAX_ID};
 use crate::state::KeyState;
-use dataset_tree::{Refusal, Row, SetName};
-use key_ciphers::is_encrypted;
+use dataset_tree::{Kind, NoMemory, SetName, Stop, Tree};
+use key_reads::clone_refusal;
+use std::alloc::AllocError;
 
 impl KeyState {
-    /// Why the state refuses a clone.
-    pub(crate) fn clone_refusal(&self, from: &SetName, name: &SetName) -> Option<Refusal>
-        ensures { result ≡ first_of (clone_cases self.now from.now name.now) }
+    /// Makes a dataset in the family of an encrypted one, whose clone it is, and gives its id. It has no record and
+    /// is no root: it uses the key that its origin uses, whatever its parent's key is. Slots that agreed do so after it.
+    ///
+    /// # Errors
+    /// `NoSuch` and `NotEncrypted` for the origin, `Exists`, `NoParent`, `Full` (datasets, ids); `NoMemory` where an
+    /// allocation is refused. After an `Err` all is as before.
+    pub fn add_clone(&mut self, from: &SetName, name: &SetName) -> Result<u32, Stop>
+        ensures reply { AnswersMade result (key_step self.old (commands.Clone from.now name.now) nothing_told).reply }
+        ensures state { self.new ≡ state_after result self.old
+            (key_step self.old (commands.Clone from.now name.now) nothing_told).state }
+        ensures unchanged { OnErr result (self.new ≡ self.old) }
+        ensures agrees { (t : Told) → Agrees t self.old → Agrees t self.new }
     {
-        let origin = self.row_named(from.as_bytes());
-        if origin.is_none() {
-            return Some(Refusal::NoSuch);
+        if let Some(why) = clone_refusal(self, from, name) {
+            return Err(Stop::Refused(why));
         }
-        if !is_encrypted(origin) {
-            return Some(Refusal::NotEncrypted);
-        }
-        if self.row_named(name.as_bytes()).is_some() {
-            return Some(Refusal::Exists);
-        }
-        if self.lacks_parent(name) {
-            return Some(Refusal::NoParent);
-        }
-        if self.tree.rows().len() >= MAX_DATASETS {
-            return Some(Refusal::Full {
-                limit: MAX_DATASETS as u64,
-            });
-        }
-        if self.tree.last() == MAX_ID {
-            return Some(Refusal::Full {
-                limit: u64::from(MAX_ID),
-            });
-        }
-        None
+        let Some(origin) = self.tree.find(from) else {
+            unreachable!();
+        };
+        self.add_clone_of(from, name, origin)
     }
 
-    /// Why the state refuses to destroy a dataset.
-    pub(crate) fn destroy_refusal(&self, name: &SetName, snaps: bool) -> Option<Refusal>
-        ensures { result ≡ first_of (destroy_cases self.now name.now snaps) }
+    /// Adds the clone of a dataset, which nothing refuses.
+    fn add_clone_of(&mut self, from: &SetName, name: &SetName, origin: u32) -> Result<u32, Stop>
+        requires accepted { refusal_of self.old (commands.Clone from.now name.now) ≡ None }
+        requires named { id_named from.now self.old.tree.rows ≡ Some origin }
+        ensures reply { AnswersMade result (key_step self.old (commands.Clone from.now name.now) nothing_told).reply }
+        ensures state { self.new ≡ state_after result self.old
+            (key_step self.old (commands.Clone from.now name.now) nothing_told).state }
+        ensures unchanged { OnErr result (self.new ≡ self.old) }
+        ensures agrees { (t : Told) → Agrees t self.old → Agrees t self.new }
     {
-        let Some(row) = self.row_named(name.as_bytes()) else {
-            return Some(Refusal::NoSuch);
-        };
-        if is_needed(self.tree.rows(), row.id) || snaps {
-            return Some(Refusal::HasChildren);
-        }
-        if self.is_mounted(row.id) {
-            return Some(Refusal::Mounted);
-        }
-        None
+        let id = add_free_clone(&mut self.tree, name, origin)?;
+        Ok(id)
     }
 }
 
-/// Whether the dataset has children, or was cloned.
-fn is_needed(rows: &[Row], id: u32) -> bool
-    ensures { result ≡ is_needed id rows.now }
+/// Adds a clone that nothing refuses.
+fn add_free_clone(tree: &mut Tree, name: &SetName, origin: u32) -> Result<u32, NoMemory>
+    requires free { new_id tree.old name.now ≡ Ok (tree.old.last + 1) }
+    requires origin { IsDatasetOrNone tree.old origin }
+    ensures id { IfOk result (λ id. id ≡ tree.old.last + 1) }
+    ensures added { OnOk result (tree.new ≡ with_row tree.old name.now Crypt origin) }
+    ensures same { OnErr result (tree.new ≡ tree.old) }
 {
-    rows.iter().any(|row| row.parent == id || row.origin == id)
+    match tree.add(name, Kind::Crypt, origin) {
+        Ok(id) => Ok(id),
+        Err(Stop::NoMemory) => Err(AllocError),
+        Err(Stop::Refused(_)) => unreachable!(),
+    }
 }

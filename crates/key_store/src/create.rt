@@ -1,27 +1,21 @@
 // New datasets.
-ghost use Rattle.std.specs.Prelude.{◌≡◌, ℕ, ◌<◌, ◌≤◌, ◌+◌, true, false, length, vec_capacity, unwrap_or, is_some, Some, None, IfOk, IfSome, OnOk, OnErr};
-ghost use Rattle.std.specs.Option.{option_copied, option_and_then};
+ghost use Rattle.std.specs.Prelude.{◌≡◌, ◌<◌, ◌≤◌, ◌+◌, true, false, length, vec_capacity, is_some, Some, None, IfOk, IfSome, OnOk, OnErr};
 ghost use Rattle.dataset_tree.specs.Tree.{new_id, with_row};
-ghost use Rattle.encryption_roots.specs.ById.{IsRisingById, at_id, with_id};
+ghost use Rattle.encryption_roots.specs.ById.{IsRisingById, with_id};
 ghost use Rattle.encryption_roots.specs.RecordSize.{IsRecordSize};
 ghost use Rattle.encryption_roots.specs.declared.command.KeyCmd.TheVariants as commands;
-ghost use Rattle.key_machine.specs.Plain.{mkey, owner_of};
-ghost use Rattle.key_machine.specs.Create.{makes_heir, makes_encrypted, is_below_encrypted, parent_row, parent_key, is_passphrase, are_bad_iterations, new_suite, parent_suite, new_iters, new_salt};
+ghost use Rattle.key_machine.specs.Plain.{mkey};
+ghost use Rattle.key_machine.specs.Create.{makes_heir, makes_encrypted, is_below_encrypted, parent_row, parent_key};
 ghost use Rattle.key_machine.specs.Step.{refusal_of, told};
 ghost use Rattle.key_ciphers.specs.Ciphers.{ciphers};
 ghost use Rattle.key_store.specs.Calls.{stepped, state_after, AnswersMade};
 ghost use Rattle.key_store.specs.NewRoot.{IsToldRoot, GivesHeir, TellsFault};
-ghost use Rattle.encryption_roots.specs.Props.{KeepsIterations};
-ghost use Rattle.encryption_roots.specs.declared.props.Location.{Location};
 
-use crate::needs::place_or_prompt;
 use crate::state::{FamilyRecord, KeyState};
-use dataset_tree::{Format, Kind, NoMemory, Refusal, SetName, Stop, Suite, Tree};
-use encryption_roots::{LineKit, Options, Props, at_id, owner_of, put_at_id};
-use key_ciphers::{
-    fetched_key, is_passphrase, seed_behind_key, seed_got, seeded_record, seeded_salt,
-};
-use key_formats::DEFAULT_ITERATIONS;
+use dataset_tree::{Format, Kind, NoMemory, Refusal, SetName, Stop, Tree};
+use encryption_roots::{LineKit, Options, Props, put_at_id};
+use key_ciphers::{fetched_key, seed_behind_key, seed_got, seeded_record};
+use key_reads::{create_refusal, is_below_encrypted, new_iters, new_props, new_suite, parent_key};
 use salt_rotation::SeedWords;
 use std::alloc::AllocError;
 
@@ -54,13 +48,13 @@ impl KeyState {
             → is_some (mkey ciphers self.new id) ≡ true) }
         ensures unchanged { OnErr result (self.new ≡ self.old) }
     {
-        if let Some(why) = self.create_refusal(name, opts) {
+        if let Some(why) = create_refusal(&*self, name, opts, self.records.len()) {
             return Err(Stop::Refused(why));
         }
         if let Some(format) = opts.format {
             return self.create_root(name, opts, format, kit);
         }
-        if self.is_below_encrypted(name) {
+        if is_below_encrypted(&*self, name) {
             return self.create_heir(name, opts, kit);
         }
         self.create_plain(name, opts, kit)
@@ -118,30 +112,10 @@ impl KeyState {
             Ok(seed) => SeedWords::new(seed),
             Err(why) => return Err(why),
         };
-        let key = self.parent_key(name);
-        let wrapped = seeded_record(&seed, self.new_suite(name, opts), &key);
+        let key = parent_key(self, name);
+        let wrapped = seeded_record(&seed, new_suite(self, name, opts), &key);
         let block = opts.block.unwrap_or(DEFAULT_RECORD_SIZE);
         Ok(FamilyRecord { wrapped, block })
-    }
-
-    /// The key of the parent's owner, and zeros where it isn't loaded.
-    fn parent_key(&self, name: &SetName) -> [u8; 32]
-        ensures { result ≡ parent_key self.now (parent_row self.now name.now) }
-    {
-        match self.loaded_above(name) {
-            None => [0; 32],
-            Some(key) => *key,
-        }
-    }
-
-    fn loaded_above(&self, name: &SetName) -> Option<&[u8; 32]>
-        ensures { option_copied result
-            ≡ option_and_then (λ root. at_id root self.now.loaded)
-            (option_and_then (λ parent. owner_of self.now parent.id) (parent_row self.now name.now)) }
-    {
-        let parent = self.parent_row(name)?;
-        let root = owner_of(&self.tree, &self.roots, parent.id)?;
-        at_id(self.loaded.as_slice(), root)
     }
 
     /// Makes an encryption root.
@@ -196,69 +170,13 @@ impl KeyState {
             Ok(key) => key,
             Err(why) => return Err(Stop::Refused(why)),
         };
-        let wrapped = seeded_record(&seed, self.new_suite(name, opts), &key);
+        let wrapped = seeded_record(&seed, new_suite(self, name, opts), &key);
         let block = opts.block.unwrap_or(DEFAULT_RECORD_SIZE);
         Ok(NewRoot {
             props,
             family: FamilyRecord { wrapped, block },
             key,
         })
-    }
-
-    /// The suite of a new encrypted dataset: that of the options, else the parent's, else aes-256-gcm.
-    fn new_suite(&self, name: &SetName, opts: &Options) -> Suite
-        ensures { result ≡ new_suite self.now name.now opts.now }
-    {
-        match opts.suite {
-            Some(suite) => suite,
-            None => self.parent_suite(name).unwrap_or(Suite::Aes256Gcm),
-        }
-    }
-
-    fn parent_suite(&self, name: &SetName) -> Option<Suite>
-        ensures { result ≡ parent_suite self.now (parent_row self.now name.now) }
-    {
-        let parent = self.parent_row(name)?;
-        self.suite_of(parent.id)
-    }
-}
-
-/// The properties of a new root.
-fn new_props(format: Format, opts: &Options, seed: &SeedWords) -> Result<Props, NoMemory>
-    requires root { opts.now.format ≡ Some format }
-    requires iterations { are_bad_iterations opts.now.iters ≡ false }
-    ensures props { IfOk result (λ props. props
-        ≡ record {
-          format = format;
-          place = unwrap_or opts.now.place Location.Prompt;
-          iters = new_iters opts.now;
-          salt = new_salt ciphers opts.now (Ok seed.now);
-        }) }
-    ensures kept { IfOk result KeepsIterations }
-{
-    let place = place_or_prompt(opts.place.as_ref())?;
-    let (iters, salt) = match format {
-        Format::Raw | Format::Hex => (0, 0),
-        Format::Passphrase => (new_iters(opts), seeded_salt(seed)),
-    };
-    Ok(Props {
-        format,
-        place,
-        iters,
-        salt,
-    })
-}
-
-/// The iterations of a new root's key, 0 where the format is no passphrase.
-fn new_iters(opts: &Options) -> u32
-    requires { are_bad_iterations opts.now.iters ≡ false }
-    ensures iters { result ≡ new_iters opts.now }
-    ensures within { is_passphrase opts.now.format ≡ true → (100000 ≤ result) × (result ≤ 10000000) }
-{
-    if is_passphrase(opts.format) {
-        opts.iters.unwrap_or(u64::from(DEFAULT_ITERATIONS)) as u32
-    } else {
-        0
     }
 }
 

@@ -7,6 +7,7 @@
 mod clones;
 mod counts;
 mod create;
+mod destroy;
 mod laws;
 mod load;
 mod lookup;

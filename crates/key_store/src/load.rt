@@ -13,6 +13,7 @@ use crate::state::{FamilyRecord, KeyState};
 use dataset_tree::{Refusal, SetName, Stop};
 use encryption_roots::{LineKit, Props, put_at_id};
 use key_ciphers::{fetched_key, opened};
+use key_reads::load_root;
 
 impl KeyState {
     /// Loads the key of a root, where every record that the root owns opens under it, by the root's own key
@@ -31,7 +32,7 @@ impl KeyState {
             (stepped self.old (commands.Load name.now check_only place) kit.now).state }
         ensures unchanged { OnErr result (self.new ≡ self.old) }
     {
-        let root = match self.load_root(name, check_only) {
+        let root = match load_root(&*self, name, check_only) {
             Ok(root) => root,
             Err(why) => return Err(Stop::Refused(why)),
         };

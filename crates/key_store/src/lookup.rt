@@ -1,20 +1,18 @@
 // Looking things up in a keystore.
-ghost use Rattle.std.specs.Prelude.{◌≡◌, is_none};
+ghost use Rattle.std.specs.Prelude.{◌≡◌};
 ghost use Rattle.std.specs.Option.{option_copied, option_map};
-ghost use Rattle.dataset_tree.specs.SetName.{parent_name};
-ghost use Rattle.dataset_tree.specs.Tree.{row_named, parent_in};
+ghost use Rattle.dataset_tree.specs.Tree.{row_named};
 ghost use Rattle.encryption_roots.specs.ById.{at_id};
-ghost use Rattle.key_machine.specs.Plain.{is_loaded, is_root, is_same, owner_of, mkey};
-ghost use Rattle.key_machine.specs.Create.{parent_row, is_below_encrypted};
+ghost use Rattle.key_machine.specs.Plain.{is_same, owner_of, mkey};
 ghost use Rattle.key_machine.specs.Users.{is_mounted};
 ghost use Rattle.key_ciphers.specs.Ciphers.{ciphers, master_of};
 ghost use Rattle.key_store.specs.State.{stored_of};
 
 use crate::slots::has_mount;
 use crate::state::{FamilyRecord, KeyState};
-use dataset_tree::{Row, SetName};
+use dataset_tree::Row;
 use encryption_roots::{at_id, owner_of};
-use key_ciphers::{is_encrypted, opened, row_named};
+use key_ciphers::{opened, row_named};
 use wrapped_keys::MasterKey;
 
 impl KeyState {
@@ -23,44 +21,6 @@ impl KeyState {
         ensures { option_copied result ≡ row_named name.now self.now.tree.rows }
     {
         row_named(self.tree.rows(), name)
-    }
-
-    /// The dataset below which a new one of this name would stand.
-    pub(crate) fn parent_row(&self, name: &SetName) -> Option<&Row>
-        ensures { option_copied result ≡ parent_row self.now name.now }
-    {
-        self.row_named(name.parent()?)
-    }
-
-    /// Whether the name is that of a dataset below one that isn't there.
-    pub(crate) fn lacks_parent(&self, name: &SetName) -> bool
-        ensures { result ≡ is_none (parent_in self.now.tree.rows (parent_name name.now)) }
-    {
-        match name.parent() {
-            None => false,
-            Some(parent) => self.row_named(parent).is_none(),
-        }
-    }
-
-    /// Whether a new dataset of this name would stand below an encrypted one.
-    pub(crate) fn is_below_encrypted(&self, name: &SetName) -> bool
-        ensures { result ≡ is_below_encrypted self.now name.now }
-    {
-        is_encrypted(self.parent_row(name))
-    }
-
-    /// Whether the dataset is an encryption root.
-    pub(crate) fn is_root(&self, id: u32) -> bool
-        ensures { result ≡ is_root self.now id }
-    {
-        self.roots.contains(id)
-    }
-
-    /// Whether the key of a root is loaded.
-    pub(crate) fn is_loaded(&self, root: u32) -> bool
-        ensures { result ≡ is_loaded self.now root }
-    {
-        at_id(self.loaded.as_slice(), root).is_some()
     }
 
     /// The record of a family.

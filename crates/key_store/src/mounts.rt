@@ -187,7 +187,7 @@ impl KeyState {
         ensures fits { K.fits keeper.new board.now }
     {
         let _ = &self.tree;
-        let id = match self.unmount_id(name) {
+        let id = match self.mounted_id(name) {
             Ok(id) => id,
             Err(why) => return Err(why),
         };
@@ -199,8 +199,12 @@ impl KeyState {
         Ok(())
     }
 
-    /// The dataset that an unmount is about, or why the state refuses it.
-    pub(crate) fn unmount_id(&self, name: &SetName) -> Result<u32, Refusal>
+    /// The id of a mounted dataset.
+    ///
+    /// # Errors
+    ///
+    /// In this order `NoSuch` where no dataset has the name, `NotEncrypted` where it is plain, and `NotMounted`.
+    pub fn mounted_id(&self, name: &SetName) -> Result<u32, Refusal>
         ensures { GivesRoot result (first_of (unmount_cases self.now name.now)) (id_named name.now self.now.tree.rows) }
     {
         let Some(row) = self.row_named(name.as_bytes()) else {

@@ -13,12 +13,10 @@ use crate::slots::fresh_gens;
 use dataset_tree::{NoMemory, RecordBytes, Tree};
 use encryption_roots::{Roots, at_id};
 use key_ciphers::has_key;
+use key_reads::MAX_FAMILIES;
 use std::alloc::Global;
 use std::marker::Model;
 use wrapped_keys::MasterKey;
-
-/// The most families of a host.
-pub(crate) const MAX_FAMILIES: usize = 32;
 
 /// There is always room for so many loaded keys, which is as many as a tree has datasets.
 const LOADED_ROOM: usize = 256;

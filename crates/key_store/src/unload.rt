@@ -16,6 +16,7 @@ ghost use Rattle.key_store.specs.Calls.{AnswersUnloaded, found_by};
 use crate::state::KeyState;
 use dataset_tree::{Refusal, SetName};
 use encryption_roots::remove_at_id;
+use key_reads::unload_root;
 use mapping_words::SlotKeeper;
 
 /// A mapping that a close found in use.
@@ -57,7 +58,7 @@ impl KeyState {
         ensures agrees { Agrees (K.told keeper.new) self.new }
         ensures fits { K.fits keeper.new board.now }
     {
-        let root = match self.unload_root(name) {
+        let root = match unload_root(&*self, name) {
             Ok(root) => root,
             Err(why) => return Err(why),
         };
