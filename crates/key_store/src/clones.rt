@@ -16,7 +16,8 @@ use std::alloc::AllocError;
 
 impl KeyState {
     /// Makes a dataset in the family of an encrypted one, whose clone it is, and gives its id. It has no record and
-    /// is no root: it uses the key that its origin uses, whatever its parent's key is. Slots that agreed do so after it.
+    /// is no root: it uses the key that its origin uses, whatever its parent's key is. Slots that agreed do so after
+    /// it.
     ///
     /// # Errors
     /// `NoSuch` and `NotEncrypted` for the origin, `Exists`, `NoParent`, `Full` (datasets, ids); `NoMemory` where an
