@@ -1,6 +1,7 @@
 // The commands of the keystore, by calls: what no script shows.
 ghost use Rattle.std.specs.Prelude.{◌≡◌, true, IfOk, IfSome, is_some};
-ghost use Rattle.mapping_words.specs.Told.{Told};
+ghost use Rattle.dataset_tree.specs.Tree.{row_of};
+ghost use Rattle.mapping_words.specs.Told.{Told, fresh};
 ghost use Rattle.key_store.specs.Agrees.{Agrees};
 ghost use Rattle.encryption_roots.specs.RecordSize.{IsRecordSize};
 ghost use Rattle.wrapped_keys.specs.Stored.{parsed_record};
@@ -57,16 +58,26 @@ fn create(state: &mut KeyState, name: &SetName, opts: &Options, kit: &LineKit) -
     state.create(name, opts, kit)
 }
 
-// A keystore with the raw root `tank`, and slots that agree with it.
-fn with_root(alloc: Global) -> Result<(KeyState, LoneWords), Stop>
-    ensures { IfOk result (λ made. Agrees made.1 made.0) }
+// A keystore with the raw root `tank`.
+fn root_alone(alloc: Global) -> Result<KeyState, Stop>
+    ensures { IfOk result (Agrees (fresh 256)) }
 {
-    let words = LoneWords::new(alloc, 256)?;
     let name = tank(alloc)?;
     let kit = kit(alloc, RAW_KEY, SEED)?;
     let mut state = KeyState::new(alloc)?;
     fresh_keepers_agree();
-    create(&mut state, &name, &raw_root(), &kit)?;
+    match create(&mut state, &name, &raw_root(), &kit) {
+        Ok(_) => Ok(state),
+        Err(stop) => Err(stop),
+    }
+}
+
+// The same, and slots that agree with it.
+fn with_root(alloc: Global) -> Result<(KeyState, LoneWords), Stop>
+    ensures { IfOk result (λ made. Agrees made.1 made.0) }
+{
+    let state = root_alone(alloc)?;
+    let words = LoneWords::new(alloc, 256)?;
     Ok((state, words))
 }
 
@@ -100,12 +111,18 @@ fn mount(state: &mut KeyState, words: &mut LoneWords, name: &[u8]) -> Result<(),
     state.mount(words, &(), &name)
 }
 
+fn is_there(state: &KeyState, id: u32) -> bool
+    ensures { result ≡ is_some (row_of id state.now.tree.rows) }
+{
+    state.tree().row(id).is_some()
+}
+
 // Destroys a dataset, or says why not.
 fn destroy(state: &mut KeyState, words: &mut LoneWords, id: u32) -> Option<Refusal>
     requires { Agrees words.old state.old }
     ensures { Agrees words.new state.new }
 {
-    if state.tree().row(id).is_none() {
+    if !is_there(state, id) {
         return Some(Refusal::NoSuch);
     }
     state.destroy(words, &(), id, false).err()
