@@ -23,7 +23,8 @@ const BAD_LINES: [(&[u8], u32); 49] = [
     (b"create -o pbkdf2iters=+1 a", 10),
     (b"create -o pbkdf2iters=10000000000 a", 10),
     (
-        b"create -o encryption=on -o keyformat=raw -o keylocation=prompt -o recordsize=512 -o pbkdf2iters=1 -o a",
+        b"create -o encryption=on -o keyformat=raw -o keylocation=prompt -o recordsize=512 \
+          -o pbkdf2iters=1 -o a",
         98,
     ),
     (b"load-key", 8),
@@ -94,8 +95,8 @@ fn place_of(place: &Option<Location>) -> &[u8] {
 
 #[test]
 fn options_stand_in_any_order(rt: HostRuntime) -> Result<(), Fail> {
-    let bytes =
-        b" create -o recordsize=512 -o pbkdf2iters=0000100000 -o keylocation=file:///k  -o encryption=aes-192-gcm -o keyformat=hex -n ";
+    let bytes = b" create -o recordsize=512 -o pbkdf2iters=0000100000 -o keylocation=file:///k  \
+        -o encryption=aes-192-gcm -o keyformat=hex -n ";
     let Line::Create { name, opts } = parse_line(rt.alloc(), bytes, 0)? else {
         return Err("no create".into());
     };

@@ -31,7 +31,7 @@ use lib.Chars.{codes}
 use Rattle.std.specs.List.{AllByRecursion}
 use Rattle.dataset_tree.specs.declared.tree.Row.{Row}
 use Rattle.shell_run.specs.Answers.{Acts, ActsAs, Agrees, Executes, GivesKit, HaltsAt, HaltsIn, HasAnswer, IsDone, PerformsOne, Replies, TakesKit, WhereTold, settled, shown_output, shown_report, spot_of, unspelled, wants_of, well_count, well_of}
-use Rattle.shell_run.specs.Hosts.{HostState, host_after, host_step}
+use Rattle.host_state.specs.Hosts.{HostState, host_after, host_step}
 use Rattle.shell_run.specs.Outer.{Outer, Takes, left_after}
 use Rattle.shell_run.specs.Ran.{IsFront}
 use Rattle.shell_run.specs.Script.{Script, ToldScript, script_told}

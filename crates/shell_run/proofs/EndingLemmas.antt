@@ -12,7 +12,7 @@ use Rattle.shell_run.specs.declared.ending.Ending.TheVariants.{Done, Usage, BadL
 use Rattle.shell_run.specs.declared.found.FoundEntry.{FoundEntry}
 use Rattle.shell_run.specs.Answers.{Agrees}
 use Rattle.shell_run.specs.Endings.{status_of, closing_line, SourceFaults, SinkFaults, ClosesAs}
-use Rattle.shell_run.specs.Hosts.{no_host}
+use Rattle.host_state.specs.Hosts.{no_host}
 use Rattle.shell_run.specs.Outer.{Outer, Takes, FailWhereListedOrShort, failed_count}
 use Rattle.shell_run.specs.Progress.{Taken, Ends as EndsSo, RunsFrom}
 use Rattle.shell_run.specs.Ran.{IsAnswered, IsFront, Came, Closes, Took, Ran, last_line, WroteLast}

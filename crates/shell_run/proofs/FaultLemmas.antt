@@ -51,7 +51,7 @@ use Rattle.dataset_tree.specs.declared.refusal.Stop.TheVariants as stops
 use Rattle.edge_io.specs.Faults.{Rose}
 use Rattle.shell_run.specs.declared.command.Shown.{Shown}
 use Rattle.shell_run.specs.Answers.{HasWanted, IsOfLine, Replies, settled}
-use Rattle.shell_run.specs.Hosts.{HostState, host_step, reaped_behind}
+use Rattle.host_state.specs.Hosts.{HostState, host_step, reaped_behind}
 
 -- a refusal for a taking that failed, by its number
 pub record IsTaking (why : Refusal) : Type 0 where

@@ -3,9 +3,6 @@ pub mod WritingLemmas
 pub mod TakingLemmas
 pub mod KitLemmas
 pub mod CommandLemmas
-pub mod ChangeLemmas
-pub mod PairedLemmas
-pub mod HostLemmas
 pub mod FaultLemmas
 pub mod TaskLemmas
 pub mod PerformLemmas

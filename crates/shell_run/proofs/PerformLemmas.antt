@@ -20,7 +20,7 @@ use Rattle.shell_run.specs.declared.found.FoundEntry.{FoundEntry}
 use Rattle.shell_run.specs.declared.found.FoundKind.TheVariants.{OldKey, NewKey}
 use Rattle.shell_run.specs.declared.task.Report.{Report}
 use Rattle.shell_run.specs.Answers.{Acts, ActsAs, AreOfLine, HaltFaults, HaltsAt, HaltsIn, HasAnswer, IsSeedless, PerformsOne, Reads, WhereTold, answer_takings, outcome_takings, spot_of, supply_takings}
-use Rattle.shell_run.specs.Hosts.{HostState}
+use Rattle.host_state.specs.Hosts.{HostState}
 use Rattle.shell_run.specs.Outer.{Outer, Takes}
 use Rattle.shell_run.specs.Ran.{IsFront}
 use Rattle.shell_run.specs.Reports.{is_refusal, reported, closing}

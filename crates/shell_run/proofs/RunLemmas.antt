@@ -25,7 +25,7 @@ use Rattle.shell_run.specs.declared.found.FoundEntry.{FoundEntry}
 use Rattle.shell_run.specs.declared.found.FoundKind.TheVariants.{OldKey, NewKey}
 use Rattle.shell_run.specs.Answers.{Acts, HaltsIn, HasAnswer, WhereTold, answer_takings, spot_of}
 use Rattle.shell_run.specs.Endings.{ending_of, status_of}
-use Rattle.shell_run.specs.Hosts.{HostState, no_host}
+use Rattle.host_state.specs.Hosts.{HostState, no_host}
 use Rattle.shell_run.specs.Outer.{Outer}
 use Rattle.shell_run.specs.Progress.{Goes as GoesOn, Taken, Ends as EndsSo, TookCut, GoesPast, NoLine, IsNextLine, NoneTaken, HasReplied, HasCut, Replied, LineRan, RunsFrom}
 use Rattle.shell_run.specs.Ran.{IsAnswered, IsFront, IsCut, Came, WroteLast}

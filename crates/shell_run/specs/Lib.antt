@@ -4,7 +4,6 @@ pub mod Script
 pub mod Takings
 pub mod Outer
 pub mod Tasks
-pub mod Hosts
 pub mod Reports
 pub mod Transcript
 pub mod Ran

@@ -24,7 +24,7 @@ use Rattle.shell_run.specs.declared.found.FoundEntry.{FoundEntry}
 use Rattle.shell_run.specs.declared.task.Report.{Report}
 use Rattle.shell_run.specs.declared.found.FoundKind.{FoundKind}
 use Rattle.shell_run.specs.declared.found.FoundKind.TheVariants.{OldKey, NewKey, Seed}
-use Rattle.shell_run.specs.Hosts.{HostState, host_step, no_host}
+use Rattle.host_state.specs.Hosts.{HostState, host_step, no_host}
 use Rattle.shell_run.specs.Outer.{Outer, left_after}
 use Rattle.shell_run.specs.Script.{Script, ToldScript, Given, Gives, Stops, past_line, prompted, script_of, script_told, within_limits}
 use Rattle.shell_run.specs.Takings.{Taking, entries_of, has_entry, fills_of}

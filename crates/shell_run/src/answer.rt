@@ -12,12 +12,12 @@ ghost use Rattle.shell_run.specs.Transcript.{answer_if, answer_of, begun, comman
 
 use crate::command::{Shown, execute};
 use crate::ending::Halt;
-use crate::host::Host;
 use crate::outside::Outside;
 use crate::reply::{push_counts, push_error, push_key, push_ok, push_sets, push_text, push_total};
 use crate::task::{MAX_PARTS, Report, Task, task_of};
 use dataset_tree::{NoMemory, Refusal, SetName};
 use encryption_roots::KeyCmd;
+use host_state::Host;
 use key_store::KeyState;
 use shelf_store::Shelf;
 use shell_lines::{Line, LineStop, parse_line};

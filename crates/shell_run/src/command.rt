@@ -5,16 +5,16 @@ ghost use Rattle.edge_io.specs.Faults.{Rose};
 ghost use Rattle.key_machine.specs.Fair.{WasAsked};
 ghost use Rattle.shell_run.specs.declared.found.FoundEntry.{FoundEntry};
 ghost use Rattle.shell_run.specs.Answers.{Acts, ActsAs, Agrees, Executes, Fetches, IsOfLine, HasWanted, Reads, Replies, TakesKit, WhereTold, settled, shown_unless, spot_of, wants_of};
-ghost use Rattle.shell_run.specs.Hosts.{host_after, host_step};
+ghost use Rattle.host_state.specs.Hosts.{host_after, host_step};
 ghost use Rattle.shell_run.specs.Takings.{is_fetch};
 ghost use Rattle.shell_run.specs.Transcript.{commanded, told_world};
 
 use crate::ending::Halt;
 use crate::found::{FoundEntry, FoundKind};
-use crate::host::Host;
 use crate::outside::Outside;
 use dataset_tree::{Refusal, Stop};
 use encryption_roots::{Fetched, KeyCmd, LineKit, Location, PropText, SeedGot};
+use host_state::Host;
 use key_store::Needs;
 use shelf_store::Shelf;
 use std::alloc::Global;

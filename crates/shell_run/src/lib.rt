@@ -4,11 +4,8 @@
 mod answer;
 mod command;
 mod ending;
-mod families;
 mod found;
-mod host;
 mod laws;
-mod lone_keys;
 mod outside;
 mod reply;
 mod run;
@@ -22,7 +19,5 @@ pub use laws::{
 };
 pub use run::run_alone;
 
-#[cfg(test)]
-mod plan_tests;
 #[cfg(test)]
 mod tests;

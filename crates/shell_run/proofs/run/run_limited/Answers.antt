@@ -1,4 +1,4 @@
-use Rattle.shell_run.specs.Hosts.{no_host}
+use Rattle.host_state.specs.Hosts.{no_host}
 use Rattle.shell_run.proofs.RunLemmas.{made_runs, not_made}
 use Rattle.shell_run.proofs.run.run_limited.Goals as goal
 
