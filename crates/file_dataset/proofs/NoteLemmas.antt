@@ -80,7 +80,7 @@ not_err : (place : Result ℕ Refusal) → is_ok place ≡ true → is_err place
 not_err (Ok at) is = refl
 not_err (Err why) is = absurd (cc)
 
-answered_there : {X : Type 0} (answer : Table → Result X Refusal) (old : FamilyState) (spot : Spot)
+pub answered_there : {X : Type 0} (answer : Table → Result X Refusal) (old : FamilyState) (spot : Spot)
     → is_ok (new_place old spot.head) ≡ true → answered_at answer old spot ≡ by_table answer old spot
 answered_there {X = X} answer old spot is = by_place (new_place old spot.head) refl is
   where

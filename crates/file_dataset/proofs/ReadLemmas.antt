@@ -1,7 +1,8 @@
 -- The steps from the directory to a file, over plain variables.
-use Rattle.std.proofs.Common.{◌≡◌, ℕ, Bool, true, false, List, refl, sym, ◌∙◌, subst, inl, inr, Option, Some, None, Result, Ok, Err}
+use Rattle.std.proofs.Common.{◌≡◌, ℕ, ◌<◌, Bool, true, false, List, get_or, refl, sym, ◌∙◌, subst, inl, inr, Option, Some, None, Result, Ok, Err}
 use Rattle.std.specs.Prelude.{IfSome, ◌⊎◌}
 use Rattle.std.specs.Option.{option_and_then, option_map_or}
+use Rattle.std.proofs.lemmas.List.{get_or_default}
 use Rattle.std.proofs.lemmas.Option.{IfSome_then}
 use Rattle.dataset_tree.specs.declared.refusal.Refusal.{Refusal}
 use Rattle.dataset_tree.specs.declared.refusal.Refusal.TheVariants as refusals
@@ -21,8 +22,9 @@ use Rattle.family_log.specs.Calls.{with_entry}
 use Rattle.family_log.specs.Noted.{noted}
 use Rattle.file_directory.specs.declared.directory.DirectoryEntry.{DirectoryEntry}
 use Rattle.file_directory.specs.Entries.{object_named}
-use Rattle.file_directory.specs.Form.{objects_of}
+use Rattle.file_directory.specs.Form.{IsDirectory, objects_of}
 use Rattle.file_directory.specs.Reading.{directory_answer, read_directory}
+use Rattle.file_directory.proofs.ReadLemmas.{is_read}
 use Rattle.file_dataset.specs.declared.halt.Halt.{Halt}
 use Rattle.file_dataset.specs.declared.halt.Halt.TheVariants as halts
 use Rattle.file_dataset.specs.Calls.{is_of_reading}
@@ -49,6 +51,16 @@ unfolding held_entries
 entries_stop f held key table halt told =
     IfSome_then held told (λ h found.
     finds_stop f (λ entries. entries) (held_text key h table) (λ text. directory_answer (read_directory (objects_of table) text)) halt found)
+
+-- what is read of a slice of bytes is in form
+pub parsed_form : (objects : ℕ → Bool) (text : List ℕ) (entries : List DirectoryEntry) → ((k : ℕ) → get_or text k 0 < 256)
+    → directory_answer (read_directory objects text) ≡ Ok entries → IsDirectory objects entries
+parsed_form objects text entries bytes is =
+    (is_read objects text entries (λ k d within. rw (get_or_default text k d 0 within) (bytes k)) (answered (read_directory objects text) is)).in_form
+  where
+    answered : (r : Result (List DirectoryEntry) ℕ) → directory_answer r ≡ Ok entries → r ≡ Ok entries
+    answered (Ok found) is = cc
+    answered (Err at) is = absurd (cc)
 
 pub portable_told : (held : Option (List (List ℕ))) (key : KeyValue) (hmac_key : List ℕ) (table : Table) (passes : Bool)
     (result : Result (List DirectoryEntry) Halt) → passes ≡ has_portable hmac_key table → passes ≡ true

@@ -18,7 +18,7 @@ use Rattle.family_log.specs.declared.entry.Spot.{Spot}
 use Rattle.family_log.specs.Model.{FamilyState, IsFamily, table_of}
 use Rattle.family_log.proofs.KeptLemmas.{table_of-is}
 use Rattle.std.specs.Prelude.{IfOk}
-use Rattle.std.proofs.Common.{Result, Ok, Err}
+use Rattle.std.proofs.Common.{Option, Result, Ok, Err}
 use Rattle.file_dataset.specs.Steps.{IsReadable}
 
 -- ---- record sizes
@@ -106,6 +106,9 @@ row_found record_size object (row ∷ rows) all =
 
 pub row_in_form : (table : Table) (object : ℕ) → IsReadable table → IfSome (row_of object table) (IsRow table.block)
 row_in_form table object is = row_found table.block object table.rows is.form.rows
+
+pub row_found_form : (table : Table) (row : TableRow) → IsReadable table → row_of row.object table ≡ Some row → IsRow table.block row
+row_found_form table row is found = subst (λ (o : Option TableRow). IfSome o (IsRow table.block)) found (row_in_form table row.object is)
 
 pub readable_table : (family : FamilyState) (spot : Spot) (table : Table) → IsFamily family → Some table ≡ table_of spot family.heads
     → IsReadable table

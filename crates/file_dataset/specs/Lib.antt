@@ -4,3 +4,9 @@ pub mod Calls
 pub mod Steps
 pub mod Sample
 pub mod Least
+pub mod Edits
+pub mod Files
+pub mod Changes
+pub mod ChangeCalls
+pub mod ChangeSteps
+pub mod Steady

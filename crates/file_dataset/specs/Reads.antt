@@ -51,7 +51,7 @@ has_portable hmac_key table = bytes_eq (portable hmac_key table) table.portable
 -- the text of the directory, all of object 1, or the first place of it that fails
 abbrev pub held_text : KeyValue → (held : List (List ℕ)) → Table → Result (List ℕ) Refusal
 held_text key held table =
-    option_map_or (λ row. row_range key held table.block row 0 row.length) (row_of 1 table) (Ok [])
+    option_map_or (λ own. row_range key held table.block own 0 own.length) (row_of 1 table) (Ok [])
 
 -- the entries of the directory
 unfoldable pub held_entries : KeyValue → (held : List (List ℕ)) → Table → Result (List DirectoryEntry) Refusal

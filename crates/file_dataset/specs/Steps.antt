@@ -1,17 +1,20 @@
 -- What the steps of a call that reads answer and leave, on whatever shelf.
-use Rattle.std.specs.Prelude.{ℕ, ◌≤◌, ◌≡◌, ◌⊎◌, Bool, true, false, List, Option, Some, None, Result, Ok, Err, IfErr, IfSome, ⊤}
+use Rattle.std.specs.Prelude.{ℕ, ◌≤◌, ◌≡◌, ◌⊎◌, ◌==◌, Bool, true, false, List, [], ◌∷◌, Option, Some, None, Result, Ok, Err, IfErr, IfSome, ⊤}
+use Rattle.std.specs.List.{list_any}
 use Rattle.std.specs.Option.{option_map_or}
 use Rattle.std.specs.Result.{result_map_both}
 use Rattle.dataset_tree.specs.declared.refusal.Refusal.{Refusal}
 use Rattle.dataset_tree.specs.declared.refusal.Refusal.TheVariants as refusals
 use Rattle.dataset_tree.specs.declared.refusal.Stop.{Stop}
 use Rattle.dataset_tree.specs.declared.refusal.Stop.TheVariants as stops
+use Rattle.dataset_tree.specs.Refusal.{number_of}
 use Rattle.shelf_store.specs.declared.shelf.TheConstants.{SHELF_BYTES}
 use Rattle.shelf_store.specs.ShelfState.{ShelfState, after_calls}
 use Rattle.indirect_macs.specs.Calls.{fails_within}
 use Rattle.indirect_macs.specs.declared.refs.MacError.{MacError}
 use Rattle.indirect_macs.specs.declared.refs.MacError.TheVariants as mac_error
-use Rattle.family_log.specs.Tables.{IsRecordSize, IsTable}
+use Rattle.family_log.specs.Log.{last_length}
+use Rattle.family_log.specs.Tables.{IsRecordSize, IsTable, length_in}
 use Rattle.family_log.specs.declared.table.Table.{Table}
 use Rattle.family_log.specs.declared.entry.Spot.{Spot}
 use Rattle.family_log.specs.declared.entry.ReadNote.{ReadNote}
@@ -25,6 +28,13 @@ use Rattle.file_dataset.specs.Calls.{by_table, calls_for, is_of_reading, tested_
 pub record IsReadable (table : Table) : Type 0 where
   pub record_size : IsRecordSize table.block
   pub form : IsTable table.block table
+
+-- the table of a spot of a family, as its type keeps it: in form, and with the lengths that the log gives
+pub record IsTableAt (family : FamilyState) (spot : Spot) (table : Table) : Type 0 where
+  pub found : table_of spot family.heads ≡ Some table
+  pub in_form : IsReadable table
+  pub record_size : table.block ≡ family.block
+  pub lengths : (object : ℕ) → length_in table object ≡ last_length family.log spot object
 
 -- what ends a call that fails in an object
 abbrev pub halt_in : (object : ℕ) → MacError → Halt
@@ -80,6 +90,19 @@ IsHaltedBy (Err halts.NoMemory) why = ⊤
 pub record IsUnreadBy {X : Type 0} (result : Result X Halt) (old new : ShelfState) (why : Refusal) : Type 0 where
   pub halted : IsHaltedBy result why
   pub same : new ≡ old
+
+-- a failure of the shelf, one of these refusals by number, or want of memory
+abbrev pub IsOneHalt : (numbers : List ℕ) → Halt → Type 0
+IsOneHalt numbers (halts.Refused why) = list_any (λ number. number == number_of why) numbers ≡ true
+IsOneHalt numbers halts.ShelfFault = ⊤
+IsOneHalt numbers halts.NoMemory = ⊤
+
+-- the refusals of a reading of the directory: a place that fails, and a directory out of form; and no file
+abbrev pub directory_stops : List ℕ
+directory_stops = 24 ∷ 38 ∷ []
+
+abbrev pub row_stops : List ℕ
+row_stops = 21 ∷ 24 ∷ 38 ∷ []
 
 -- ---- before and behind a reading
 

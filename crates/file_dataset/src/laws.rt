@@ -1,13 +1,18 @@
-// Laws of the definitions. The function does nothing.
-ghost use Rattle.std.specs.Prelude.{◌≡◌, ◌+◌, ◌<◌, ◌≤◌, ℕ, List, Err, min};
+// Laws of the definitions. The functions do nothing.
+ghost use Rattle.std.specs.Prelude.{◌≡◌, ◌+◌, ◌<◌, ◌≤◌, ℕ, List, Err, None, Ok, Some, drop, map, min, take};
 ghost use Rattle.dataset_tree.specs.declared.refusal.Refusal.{Refusal};
 ghost use Rattle.dataset_tree.specs.declared.refusal.Refusal.TheVariants as refusals;
 ghost use Rattle.block_crypt.specs.Blocks.{KeyValue};
+ghost use Rattle.family_log.specs.declared.entry.Spot.{Spot};
+ghost use Rattle.family_log.specs.declared.table.Table.{Table};
 ghost use Rattle.family_log.specs.declared.table.TableRow.{TableRow};
+ghost use Rattle.family_log.specs.Model.{FamilyState};
 ghost use Rattle.file_blocks.specs.Objects.{count_touched, first_touched};
 ghost use Rattle.file_blocks.specs.Places.{FailsFirst};
 ghost use Rattle.file_dataset.specs.Least.{IsFirstFailing};
-ghost use Rattle.file_dataset.specs.Reads.{row_range};
+ghost use Rattle.file_dataset.specs.Edits.{Files, bytes_of};
+ghost use Rattle.file_dataset.specs.Files.{ShowsFiles, file_length};
+ghost use Rattle.file_dataset.specs.Reads.{plain_names, plain_read, row_range};
 
 /// The range of an object that can't be read is refused by the first place that fails: of all places over a
 /// block of the range above which all pass, the one with the least first block, and of two with the same the
@@ -24,4 +29,21 @@ pub fn ranges_name_the_first_place_that_fails()
         + count_touched record_size (min from row.length) (min (from + len) row.length)
         → FailsFirst key held record_size row.tree index level
         → (why : Refusal) × (row_range key held record_size row from len ≡ Err why) }
+{}
+
+/// On an honest shelf a read of a spot gives the bytes of its file, from a place on at most so many and none past
+/// its end, and is refused where there is no file of the name; and the names are those of the files, each with its
+/// length.
+pub fn reads_give_the_files()
+    ensures bytes { (key : KeyValue) (hmac_key : List ℕ) (family : FamilyState) (spot : Spot) (held : List (List ℕ))
+        (table : Table) (shown : Files) (name bytes : List ℕ) (from len : ℕ)
+        → ShowsFiles key hmac_key family spot held table shown → bytes_of name shown ≡ Some bytes
+        → plain_read key hmac_key held name from len table ≡ Ok (take len (drop from bytes)) }
+    ensures missing { (key : KeyValue) (hmac_key : List ℕ) (family : FamilyState) (spot : Spot) (held : List (List ℕ))
+        (table : Table) (shown : Files) (name : List ℕ) (from len : ℕ)
+        → ShowsFiles key hmac_key family spot held table shown → bytes_of name shown ≡ None
+        → plain_read key hmac_key held name from len table ≡ Err refusals.NoFile }
+    ensures names { (key : KeyValue) (hmac_key : List ℕ) (family : FamilyState) (spot : Spot) (held : List (List ℕ))
+        (table : Table) (shown : Files) → ShowsFiles key hmac_key family spot held table shown
+        → plain_names key hmac_key held table ≡ Ok (map file_length shown) }
 {}

@@ -5,21 +5,50 @@
 //! needs of the file's object, and names the first test that fails.
 #![tactic(auto)]
 
+mod changes;
+mod changing;
+mod command;
+mod edit;
+mod entering;
 mod file;
 mod halt;
+mod kind;
 mod laws;
+mod limits;
 mod listing;
+mod lists;
+mod new_rows;
 mod noting;
 mod portable;
 mod reading;
+mod reply;
 mod rows;
+mod sealing;
+mod steady_laws;
 mod surface;
 mod testing;
+mod wrote;
 
+pub use changes::{cut, make_file, remove_file, write_at};
+pub use command::FileCmd;
 pub use file::FileRow;
+<<<<<<< ours
 pub use laws::ranges_name_the_first_place_that_fails;
+pub use lists::{FileBytes, FileRows};
+=======
+pub use laws::{ranges_name_the_first_place_that_fails, reads_give_the_files};
+>>>>>>> theirs
 pub use portable::fresh_portable;
+pub use reply::FileReply;
+pub use steady_laws::{calls_on_sample_families, steady_families_determine_calls};
 pub use surface::{names, read_at, verify_head};
+pub use wrote::Wrote;
 
 #[cfg(test)]
+mod change_tests;
+#[cfg(test)]
+mod line_tests;
+#[cfg(test)]
 mod tests;
+#[cfg(test)]
+mod trial;

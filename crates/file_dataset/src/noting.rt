@@ -1,12 +1,13 @@
 // What comes before and behind a reading of a family: whether its log takes an entry, and the entry.
 ghost use Rattle.std.specs.Prelude.{◌≡◌, ◌⊎◌, Err, Some, IfErr, IfOk, is_ok, true};
 ghost use Rattle.family_log.specs.Calls.{new_place, with_entry};
+ghost use Rattle.family_log.specs.Honest.{IsHonest};
 ghost use Rattle.family_log.specs.Noted.{noted};
 ghost use Rattle.family_log.specs.declared.entry.ReadNote.TheVariants as notes;
 ghost use Rattle.dataset_tree.specs.declared.refusal.Stop.TheVariants as stops;
 ghost use Rattle.file_dataset.specs.declared.halt.Halt.TheVariants as halts;
-ghost use Rattle.family_log.specs.Model.{table_of};
-ghost use Rattle.file_dataset.specs.Steps.{IsHaltAt, IsNoted, IsReadable, IsStopAt, note_of};
+ghost use Rattle.family_log.specs.Model.{IsFamily, table_of};
+ghost use Rattle.file_dataset.specs.Steps.{IsHaltAt, IsNoted, IsReadable, IsStopAt, IsTableAt, note_of};
 
 use crate::halt::{Halt, stop_of};
 use dataset_tree::{Refusal, Stop};
@@ -18,6 +19,7 @@ pub(crate) fn ready<B: Shelf>(fam: &Family<B>, spot: &Spot) -> Result<Spot, Stop
     ensures refused { IfErr result (IsStopAt (new_place fam.now spot.now.head)) }
     ensures copy { IfOk result (λ copy. copy ≡ spot.now) }
     ensures place { IfOk result (λ _. is_ok (new_place fam.now spot.now.head) ≡ true) }
+    ensures kept { IfOk result (λ _. IsFamily fam.now) }
 {
     if fam.snaps(spot.head).is_none() {
         return Err(Stop::Refused(Refusal::NoHead { head: spot.head }));
@@ -38,6 +40,7 @@ pub(crate) fn ready<B: Shelf>(fam: &Family<B>, spot: &Spot) -> Result<Spot, Stop
 pub(crate) fn table_at<B: Shelf>(fam: &Family<B>, spot: &Spot) -> Result<Table, Halt>
     ensures table { IfOk result (λ table. table_of spot.now fam.now.heads ≡ Some table) }
     ensures in_form { IfOk result IsReadable }
+    ensures kept { IfOk result (IsTableAt fam.now spot.now) }
     ensures refused { IfErr result (IsHaltAt (table_of spot.now fam.now.heads)) }
 {
     match fam.table(spot) {
@@ -85,10 +88,17 @@ fn noted_halt<B: Shelf>(fam: &mut Family<B>, spot: Spot, halt: Halt) -> Stop
     }
 }
 
-fn noted_stop<B: Shelf>(fam: &mut Family<B>, spot: Spot, note: ReadNote, stop: Stop) -> Stop
+/// Adds an entry of this note to the log, and gives the stop, or want of memory where there is none for it.
+pub(crate) fn noted_stop<B: Shelf>(
+    fam: &mut Family<B>,
+    spot: Spot,
+    note: ReadNote,
+    stop: Stop,
+) -> Stop
     requires { is_ok (new_place fam.old spot.head) ≡ true }
-    ensures { ((result ≡ stop) × (fam.new ≡ with_entry (noted spot note) fam.old))
+    ensures entry { ((result ≡ stop) × (fam.new ≡ with_entry (noted spot note) fam.old))
         ⊎ ((result ≡ stops.NoMemory) × (fam.new ≡ fam.old)) }
+    ensures honest { IsHonest fam.old → IsHonest fam.new }
 {
     match fam.note_read(spot, note) {
         Ok(_) => stop,

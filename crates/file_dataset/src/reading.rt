@@ -1,14 +1,14 @@
 // The bytes of objects, and the directory.
-ghost use Rattle.std.specs.Prelude.{◌≡◌, ◌+◌, false, IfErr, IfSome};
+ghost use Rattle.std.specs.Prelude.{◌≡◌, ◌+◌, false, IfErr, IfOk, IfSome};
 ghost use Rattle.dataset_tree.specs.declared.refusal.Refusal.TheVariants as refusals;
 ghost use Rattle.family_log.specs.Tables.{IsRecordSize, IsRow};
 ghost use Rattle.file_blocks.specs.Objects.{count_touched};
-ghost use Rattle.file_directory.specs.Form.{objects_of};
+ghost use Rattle.file_directory.specs.Form.{IsDirectory, objects_of};
 ghost use Rattle.file_directory.specs.Reading.{directory_answer, read_directory};
 ghost use Rattle.file_dataset.specs.declared.halt.Halt.TheVariants as halts;
 ghost use Rattle.file_dataset.specs.Calls.{directory_blocks, range_blocks, tested_portable};
 ghost use Rattle.file_dataset.specs.Reads.{has_portable, held_directory, held_entries, held_text, plain_read, row_range};
-ghost use Rattle.file_dataset.specs.Steps.{Finds, IsReadHalt, IsReadable, IsUnreadBy, Walked, is_fault};
+ghost use Rattle.file_dataset.specs.Steps.{Finds, IsOneHalt, IsReadHalt, IsReadable, IsUnreadBy, Walked, directory_stops, is_fault};
 
 use crate::halt::{Halt, halt_in, halt_of};
 use crate::portable::portable_of;
@@ -41,6 +41,7 @@ fn read_row<K: BlockKey, B: Shelf>(
         (B.told shelf.old) (B.told shelf.new) }
     ensures told { IfSome (B.told shelf.old).held (λ held. Finds (λ bytes. bytes.items)
         (row_range (K.told key.now) held block row.now from len) result) }
+    ensures among { IfErr result (IsOneHalt directory_stops) }
 {
     let start = from.min(row.length);
     let end = start.saturating_add(len).min(row.length);
@@ -61,6 +62,7 @@ fn read_text<K: BlockKey, B: Shelf>(
     ensures walked { Walked (directory_blocks table.now) result (B.told shelf.old) (B.told shelf.new) }
     ensures told { IfSome (B.told shelf.old).held (λ held. Finds (λ bytes. bytes.items)
         (held_text (K.told key.now) held table.now) result) }
+    ensures among { IfErr result (IsOneHalt directory_stops) }
 {
     match row_of(table, DIRECTORY) {
         Some(row) => read_row(alloc, key, shelf, table.block, &row, 0, row.length),
@@ -72,7 +74,9 @@ fn parsed(alloc: Global, text: &[u8], table: &Table) -> Result<Directory, Halt>
     ensures answer { Finds (λ directory. directory) (directory_answer (read_directory (objects_of table.now) text.now))
         result }
     ensures among { IfErr result IsReadHalt }
+    ensures stops { IfErr result (IsOneHalt directory_stops) }
     ensures fault { is_fault result ≡ false }
+    ensures in_form { IfOk result (IsDirectory (objects_of table.now)) }
 {
     match Directory::parse(alloc, text, table) {
         Ok(directory) => Ok(directory),
@@ -90,6 +94,8 @@ fn read_directory<K: BlockKey, B: Shelf>(
     ensures walked { Walked (directory_blocks table.now) result (B.told shelf.old) (B.told shelf.new) }
     ensures told { IfSome (B.told shelf.old).held (λ held. Finds (λ directory. directory)
         (held_entries (K.told key.now) held table.now) result) }
+    ensures among { IfErr result (IsOneHalt directory_stops) }
+    ensures in_form { IfOk result (IsDirectory (objects_of table.now)) }
 {
     match read_text(alloc, key, shelf, table) {
         Ok(text) => parsed(alloc, text.as_slice(), table),
@@ -109,8 +115,10 @@ pub(crate) fn open_directory<K: BlockKey, B: Shelf>(
     ensures walked { Walked (directory_blocks table.now) result (B.told shelf.old) (B.told shelf.new) }
     ensures told { IfSome (B.told shelf.old).held (λ held. Finds (λ directory. directory)
         (held_directory (K.told key.now) hmac.now held table.now) result) }
+    ensures among { IfErr result (IsOneHalt directory_stops) }
     ensures before { IfErr (tested_portable hmac.now table.now)
         (IsUnreadBy result (B.told shelf.old) (B.told shelf.new)) }
+    ensures in_form { IfOk result (IsDirectory (objects_of table.now)) }
 {
     if has_portable(hmac, table) {
         read_directory(alloc, key, shelf, table)

@@ -93,7 +93,7 @@ fn file_node() -> [u8; 1568] {
 }
 
 // A master key of the bytes from 128 on.
-fn master_key() -> MasterKey
+pub(crate) fn master_key() -> MasterKey
     ensures { result.guid ≡ 1 }
 {
     let mut master = [0; 32];
