@@ -1,8 +1,9 @@
-//! The files of a dataset: what is read of a head or a snapshot of a family.
+//! The files of a dataset: those of a head are changed and read, those of a snapshot read.
 //!
 //! The files of a head are those of its directory, object 1 of its table; each has an object of its own. A
-//! call that reads tests the portable MAC of the table, then what it needs of the directory, and then what it
-//! needs of the file's object, and names the first test that fails.
+//! call tests the portable MAC of the table, then what it needs of the directory, and then what it needs of the
+//! file's object, and names the first test that fails. One that changes a head then seals and puts its blocks, and
+//! gives the head a new table with the log's entry.
 #![tactic(auto)]
 
 mod changes;
@@ -32,12 +33,8 @@ mod wrote;
 pub use changes::{cut, make_file, remove_file, write_at};
 pub use command::FileCmd;
 pub use file::FileRow;
-<<<<<<< ours
-pub use laws::ranges_name_the_first_place_that_fails;
-pub use lists::{FileBytes, FileRows};
-=======
 pub use laws::{ranges_name_the_first_place_that_fails, reads_give_the_files};
->>>>>>> theirs
+pub use lists::{FileBytes, FileRows};
 pub use portable::fresh_portable;
 pub use reply::FileReply;
 pub use steady_laws::{calls_on_sample_families, steady_families_determine_calls};
