@@ -100,11 +100,11 @@ fn cuts_seal_a_front_at_most(rt: HostRuntime) -> Result<(), Fail> {
     let mut trial = Trial::make(rt.alloc(), MANY, 20)?;
     trial.touch(b"f")?;
     trial.write(500, &[9; 30])?;
-    let (draws, puts) = trial.used();
+    assert_eq!(rt; trial.used(), (3, 5));
     trial.cut(510)?;
-    assert_eq!(rt; trial.used(), (draws + 1, puts + 2));
+    assert_eq!(rt; trial.used(), (4, 7));
     trial.cut(510)?;
-    assert_eq!(rt; trial.used(), (draws + 1, puts + 2));
+    assert_eq!(rt; trial.used(), (4, 7));
     assert_eq!(rt; trial.read(508, 9)?.as_slice(), [9, 9].as_slice());
     Ok(())
 }
