@@ -68,7 +68,7 @@ all_digits (byte ∷ word) all =
     let digit : nat_lt (digit_value byte) 10 ≡ true = grind (arith, nat_tests) in
     rw digit (all_digits word all.1)
 
-number_given : (word : List ℕ) (number : ℕ) → IsNumber word number → number_of word ≡ Some number
+pub number_given : (word : List ℕ) (number : ℕ) → IsNumber word number → number_of word ≡ Some number
 number_given word number h =
     let some : nat_le 1 (length word) ≡ true = grind (arith, nat_tests) in
     let short : nat_le (length word) 10 ≡ true = grind (arith, nat_tests) in
@@ -136,7 +136,7 @@ by_test : {P : Type 0} (test : Bool) → (test ≡ true → P) → (test ≡ fal
 by_test {P} test passes fails = elim test as (λ v. test ≡ v → P) [ true ↦ passes | false ↦ fails ] refl
 
 -- a text is a number or it isn't, and the reading says which
-by_number : {P : Type 0} (word : List ℕ) → ((number : ℕ) → number_of word ≡ Some number → IsNumber word number → P) → (number_of word ≡ None → P) → P
+pub by_number : {P : Type 0} (word : List ℕ) → ((number : ℕ) → number_of word ≡ Some number → IsNumber word number → P) → (number_of word ≡ None → P) → P
 by_number {P} word stands other =
     by_test (nat_le 1 (length word))
     (λ some. by_test (nat_le (length word) 10)

@@ -16,7 +16,7 @@ use Rattle.shell_lines.specs.Settings.{with_setting}
 use Rattle.shell_lines.specs.Words.{WordAt, words_of}
 use Rattle.shell_lines.specs.Reading.{Value, is_set}
 use Rattle.shell_lines.specs.Forms.{Form, end_as, word_then, options_then, Command, line_from}
-use Rattle.shell_lines.specs.Commands.{commands}
+use Rattle.shell_lines.specs.Commands.{commands, file_commands, snapshot_commands}
 use Rattle.shell_lines.specs.Grammar.{Spells, line_of, placed_of, is_comment, printable_line, first_unprintable}
 use Rattle.shell_lines.specs.Language.{Spelled, IsSpelled, settings_of, AreNew, Matches, Makes, CommandMakes, IsLine, texts_of}
 use Rattle.shell_lines.specs.Sized.{SizedOptions, HasRecordSize}
@@ -72,6 +72,24 @@ if_sized : (stands : Bool) (line : Line) → HasRecordSize line → Sized (end_a
 if_sized true line h = h
 if_sized false line h = tt
 
+snapshots_sized : AllByRecursion (λ command. AllByRecursion Sized command.forms) snapshot_commands
+snapshots_sized = ((λ name. tt, tt), ((λ from name. tt, tt), ((λ spot. tt, tt), ((tt, tt), ((tt, tt), tt)))))
+
+files_sized : AllByRecursion (λ command. AllByRecursion Sized command.forms) file_commands
+files_sized = (
+  (λ name file. tt, tt),
+  (
+    (λ name file. tt, tt),
+    (
+      (λ name file from bytes. tt, tt),
+      (
+        (λ spot file from len. tt, tt),
+        ((λ name file to. tt, tt), ((λ spot. tt, tt), ((λ spot. tt, tt), snapshots_sized))),
+      ),
+    ),
+  ),
+)
+
 commands_sized : AllByRecursion (λ command. AllByRecursion Sized command.forms) commands
 commands_sized = (
   ((λ settings all name. fold_sized settings no_options tt all), tt),
@@ -87,7 +105,10 @@ commands_sized = (
       (λ name. tt, ((λ _ name. tt), ((λ _. tt), tt))),
       (
         (λ settings all name. fold_sized settings no_options tt all, ((λ settings all name. if_sized (is_set settings kinds.Inherit) (InheritKey name (is_set settings kinds.LoadFirst)) tt), tt)),
-        ((λ name. tt, tt), ((λ name. tt, tt), ((λ prop name. tt, tt), ((tt, tt), ((tt, tt), tt))))),
+        (
+          (λ name. tt, tt),
+          ((λ name. tt, tt), ((λ prop name. tt, tt), files_sized)),
+        ),
       ),
     ),
   ),

@@ -3,10 +3,10 @@ use Rattle.std.specs.Prelude.{ℕ, List, [], ◌∷◌, if◌then◌else◌}
 use Rattle.std.specs.declared.option.Option.TheVariants.{Some, None}
 use lib.Chars.{codes}
 use Rattle.shell_lines.specs.declared.line.Line.{Line}
-use Rattle.shell_lines.specs.declared.line.Line.TheVariants.{Create, LoadKey, LoadBelow, LoadAll, UnloadKey, UnloadBelow, UnloadAll, ChangeKey, InheritKey, Mount, Unmount, Get, List as ListSets, Counts}
+use Rattle.shell_lines.specs.declared.line.Line.TheVariants.{Create, LoadKey, LoadBelow, LoadAll, UnloadKey, UnloadBelow, UnloadAll, ChangeKey, InheritKey, Mount, Unmount, Get, Touch, Remove, Write, Read, Truncate, Files, Verify, Snapshot, Clone, Destroy, List as ListSets, Counts}
 use Rattle.shell_lines.specs.declared.setting.OptionKind.TheVariants.{Encryption, KeyFormat, KeyLocation, Iterations, RecordSize, CheckOnly, LoadFrom, Recursive, AllRoots, LoadFirst, Inherit}
 use Rattle.shell_lines.specs.Settings.{options_with, load_place}
-use Rattle.shell_lines.specs.Reading.{a_name, a_property, the_word, is_set}
+use Rattle.shell_lines.specs.Reading.{a_name, a_property, the_word, a_number, some_bytes, is_set}
 use Rattle.shell_lines.specs.Forms.{Form, end_as, word_then, options_then, Command}
 
 abbrev pub create_form : Form
@@ -105,6 +105,95 @@ get_form = word_then a_property (λ prop. only_name (λ name. Get prop name))
 abbrev pub get : Command
 get = record { word = codes "get"; options = []; forms = get_form ∷ [] }
 
+-- the greatest number of 10 digits, and the most bytes that a line reads
+abbrev pub greatest_number : ℕ
+greatest_number = 9999999999
+
+abbrev pub longest_read : ℕ
+longest_read = 16384
+
+-- two names, as NAME and FILE, of which this line is made
+abbrev pub two_names : (List ℕ → List ℕ → Line) → Form
+two_names line = word_then a_name (λ first. word_then a_name (λ second. end_as (Some (line first second))))
+
+abbrev pub touch_form : Form
+touch_form = two_names (λ name file. Touch name file)
+
+-- `touch NAME FILE`
+abbrev pub touch : Command
+touch = record { word = codes "touch"; options = []; forms = touch_form ∷ [] }
+
+abbrev pub remove_form : Form
+remove_form = two_names (λ name file. Remove name file)
+
+-- `rm NAME FILE`
+abbrev pub remove : Command
+remove = record { word = codes "rm"; options = []; forms = remove_form ∷ [] }
+
+abbrev pub write_form : Form
+write_form =
+    word_then a_name (λ name. word_then a_name (λ file.
+    word_then (a_number greatest_number) (λ from. word_then some_bytes (λ bytes.
+    end_as (Some (Write name file from bytes))))))
+
+-- `write NAME FILE NUM HEX`
+abbrev pub write : Command
+write = record { word = codes "write"; options = []; forms = write_form ∷ [] }
+
+abbrev pub read_form : Form
+read_form =
+    word_then a_name (λ spot. word_then a_name (λ file.
+    word_then (a_number greatest_number) (λ from. word_then (a_number longest_read) (λ len.
+    end_as (Some (Read spot file from len))))))
+
+-- `read SPOT FILE NUM NUM`
+abbrev pub read : Command
+read = record { word = codes "read"; options = []; forms = read_form ∷ [] }
+
+abbrev pub truncate_form : Form
+truncate_form =
+    word_then a_name (λ name. word_then a_name (λ file.
+    word_then (a_number greatest_number) (λ to. end_as (Some (Truncate name file to)))))
+
+-- `truncate NAME FILE NUM`
+abbrev pub truncate : Command
+truncate = record { word = codes "truncate"; options = []; forms = truncate_form ∷ [] }
+
+abbrev pub files_form : Form
+files_form = only_name (λ spot. Files spot)
+
+-- `ls SPOT`
+abbrev pub files : Command
+files = record { word = codes "ls"; options = []; forms = files_form ∷ [] }
+
+abbrev pub verify_form : Form
+verify_form = only_name (λ spot. Verify spot)
+
+-- `verify SPOT`
+abbrev pub verify : Command
+verify = record { word = codes "verify"; options = []; forms = verify_form ∷ [] }
+
+abbrev pub snapshot_form : Form
+snapshot_form = only_name (λ name. Snapshot name)
+
+-- `snapshot SNAPNAME`
+abbrev pub snapshot : Command
+snapshot = record { word = codes "snapshot"; options = []; forms = snapshot_form ∷ [] }
+
+abbrev pub clone_form : Form
+clone_form = two_names (λ from name. Clone from name)
+
+-- `clone SNAPNAME NAME`
+abbrev pub clone : Command
+clone = record { word = codes "clone"; options = []; forms = clone_form ∷ [] }
+
+abbrev pub destroy_form : Form
+destroy_form = only_name (λ spot. Destroy spot)
+
+-- `destroy SPOT`
+abbrev pub destroy : Command
+destroy = record { word = codes "destroy"; options = []; forms = destroy_form ∷ [] }
+
 -- `list`
 abbrev pub list : Command
 list = record { word = codes "list"; options = []; forms = end_as (Some ListSets) ∷ [] }
@@ -113,5 +202,13 @@ list = record { word = codes "list"; options = []; forms = end_as (Some ListSets
 abbrev pub counts : Command
 counts = record { word = codes "counts"; options = []; forms = end_as (Some Counts) ∷ [] }
 
+-- the commands on snapshots, and those without words
+abbrev pub snapshot_commands : List Command
+snapshot_commands = snapshot ∷ clone ∷ destroy ∷ list ∷ counts ∷ []
+
+-- the commands on files, and those behind them
+abbrev pub file_commands : List Command
+file_commands = touch ∷ remove ∷ write ∷ read ∷ truncate ∷ files ∷ verify ∷ snapshot_commands
+
 abbrev pub commands : List Command
-commands = create ∷ load_key ∷ unload_key ∷ change_key ∷ mount ∷ unmount ∷ get ∷ list ∷ counts ∷ []
+commands = create ∷ load_key ∷ unload_key ∷ change_key ∷ mount ∷ unmount ∷ get ∷ file_commands

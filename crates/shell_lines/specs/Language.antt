@@ -1,10 +1,11 @@
 -- The language as a table: which words are a line, and the first place where words leave it. The law above `line_of`.
-use Rattle.std.specs.Prelude.{◌≡◌, ◌≢◌, ℕ, ◌<◌, ◌≤◌, ◌⊎◌, true, false, List, [], ◌∷◌, ◌++◌, length, map, slice_index}
+use Rattle.std.specs.Prelude.{◌≡◌, ◌≢◌, ℕ, ◌<◌, ◌≤◌, ◌⊎◌, true, false, List, [], ◌∷◌, ◌++◌, length, map, slice_index, Ok}
 use Rattle.std.specs.declared.option.Option.{Option}
 use Rattle.std.specs.declared.option.Option.TheVariants.{Some, None}
 use Rattle.std.specs.Fmt.{decimal}
 use Rattle.std.specs.Str.Parse.{IsNumeral, digits_value}
 use lib.Chars.{codes}
+use Rattle.hex.specs.Hex.{decode_of}
 use Rattle.dataset_tree.specs.Suite.{suite_name}
 use Rattle.dataset_tree.specs.declared.kinds.Suite.TheVariants.{Aes256Gcm}
 use Rattle.dataset_tree.specs.declared.kinds.Format.{Format}
@@ -21,7 +22,7 @@ use Rattle.shell_lines.specs.declared.setting.OptionKind.{OptionKind}
 use Rattle.shell_lines.specs.declared.setting.Setting.{Setting}
 use Rattle.shell_lines.specs.declared.setting.Setting.TheVariants.{Encryption, KeyFormat, KeyLocation, Iterations, RecordSize, CheckOnly, LoadFrom, Recursive, AllRoots, LoadFirst, Inherit}
 use Rattle.shell_lines.specs.Settings.{dash, kind_of}
-use Rattle.shell_lines.specs.Reading.{WordKind, a_name, a_property, the_word, Value, has_kind, is_set, begins_option}
+use Rattle.shell_lines.specs.Reading.{WordKind, a_name, a_property, the_word, a_number, some_bytes, Value, has_kind, is_set, begins_option}
 use Rattle.shell_lines.specs.Forms.{Form, end_as, word_then, options_then, Command}
 use Rattle.shell_lines.specs.Words.{WordAt}
 
@@ -40,11 +41,24 @@ property_name props.KeyLocation = codes "keylocation"
 property_name props.Pbkdf2Iters = codes "pbkdf2iters"
 property_name props.RecordSize = codes "recordsize"
 
+-- 1 to 10 decimal digits, which write this number
+pub record IsNumber (word : List ℕ) (number : ℕ) : Type 0 where
+  pub digits : IsNumeral 10 word
+  pub short : length word ≤ 10
+  pub is : number ≡ digits_value 10 word
+
+-- 2 or more hexadecimal digits, of either case and an even number, and the bytes that they spell
+pub record AreBytes (word bytes : List ℕ) : Type 0 where
+  pub some : 2 ≤ length word
+  pub digits : decode_of word ≡ Ok bytes
+
 -- a word of this kind, for a command with these options, and what it tells
 abbrev pub IsWord : List (List ℕ) → (kind : WordKind) → List ℕ → Value kind → Type 0
 IsWord options a_name word name = (word ≡ name) × (¬ IsAmong word options)
 IsWord options a_property word prop = word ≡ property_name prop
 IsWord options (the_word text) word told = word ≡ text
+IsWord options (a_number most) word number = IsNumber word number × (number ≤ most)
+IsWord options some_bytes word bytes = AreBytes word bytes
 
 -- ---- options
 
@@ -63,12 +77,6 @@ format_name Passphrase = codes "passphrase"
 abbrev pub IsLocation : List ℕ → Location → Type 0
 IsLocation word Prompt = word ≡ codes "prompt"
 IsLocation word (File path) = (word ≡ codes "file://" ++ path) × (is_path path ≡ true)
-
--- 1 to 10 decimal digits, which write this number
-pub record IsNumber (word : List ℕ) (number : ℕ) : Type 0 where
-  pub digits : IsNumeral 10 word
-  pub short : length word ≤ 10
-  pub is : number ≡ digits_value 10 word
 
 -- the one word, which is this location
 pub record IsLocationWord (word : Option (List ℕ)) (place : Location) : Type 0 where

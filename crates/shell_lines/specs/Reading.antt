@@ -1,17 +1,19 @@
 -- How the words of a line are read: a word of one kind, or options in any order. What is taken comes with the
 -- words behind it. Else it is wrong at AT, the offset of the first word that can't stand there, or the line's
 -- length `end` where a word is missing.
-use Rattle.std.specs.Prelude.{ℕ, Bool, not, ◌&&◌, List, [], ◌∷◌, ◌++◌, if◌then◌else◌}
+use Rattle.std.specs.Prelude.{ℕ, Bool, not, ◌&&◌, nat_le, List, [], ◌∷◌, ◌++◌, length, if◌then◌else◌}
 use Rattle.std.specs.declared.option.Option.{Option}
 use Rattle.std.specs.declared.option.Option.TheVariants.{Some, None}
 use Rattle.std.specs.List.{list_any}
+use Rattle.std.specs.Result.{result_ok}
 use Rattle.std.specs.Str.{bytes_eq}
+use Rattle.hex.specs.Hex.{decode_of}
 use lib.Chars.{codes}
 use Rattle.encryption_roots.specs.declared.props.Prop.{Prop}
 use Rattle.encryption_roots.specs.declared.props.Prop.TheVariants.{KeyStatus, Encryption, EncryptionRoot, KeyFormat, KeyLocation, Pbkdf2Iters, RecordSize}
 use Rattle.shell_lines.specs.declared.setting.OptionKind.{OptionKind}
 use Rattle.shell_lines.specs.declared.setting.Setting.{Setting}
-use Rattle.shell_lines.specs.Settings.{dash, key, kind_of, setting_of}
+use Rattle.shell_lines.specs.Settings.{dash, key, kind_of, number_of, setting_of}
 use Rattle.shell_lines.specs.Words.{WordAt}
 
 pub data Reading (A : Type 0) : Type 0 where
@@ -25,12 +27,16 @@ pub data WordKind : Type 0 where
   a_name : WordKind
   a_property : WordKind
   the_word : (text : List ℕ) → WordKind
+  a_number : (most : ℕ) → WordKind
+  some_bytes : WordKind
 
 -- what a word of this kind tells
 abbrev pub Value : WordKind → Type 0
 Value a_name = List ℕ
 Value a_property = Prop
 Value (the_word text) = Unit {0}
+Value (a_number most) = ℕ
+Value some_bytes = List ℕ
 
 abbrev pub property_of : List ℕ → Option Prop
 property_of word =
@@ -43,11 +49,25 @@ property_of word =
     else if bytes_eq word (codes "recordsize") then Some RecordSize
     else None
 
+abbrev pub up_to : (most : ℕ) → Option ℕ → Option ℕ
+up_to most None = None
+up_to most (Some number) = if nat_le number most then Some number else None
+
+-- the number of 1 to 10 decimal digits, up to a greatest one
+abbrev pub number_up_to : (most : ℕ) → List ℕ → Option ℕ
+number_up_to most word = up_to most (number_of word)
+
+-- the bytes of 2 or more hexadecimal digits, of either case
+abbrev pub bytes_in : List ℕ → Option (List ℕ)
+bytes_in word = if nat_le 2 (length word) then result_ok (decode_of word) else None
+
 -- What a word tells where this kind is due. An option of the command is never a name.
 abbrev pub value_of : List (List ℕ) → (kind : WordKind) → List ℕ → Option (Value kind)
 value_of options a_name word = if list_any (λ option. bytes_eq option word) options then None else Some word
 value_of options a_property word = property_of word
 value_of options (the_word text) word = if bytes_eq word text then Some tt else None
+value_of options (a_number most) word = number_up_to most word
+value_of options some_bytes word = bytes_in word
 
 abbrev pub told_by : {A : Type 0} → ℕ → List WordAt → Option A → Reading A
 told_by at words None = Wrong at

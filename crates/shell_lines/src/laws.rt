@@ -1,12 +1,12 @@
 // Laws of the language, above the definitions that `parse_line` is proved against.
-ghost use Rattle.std.specs.Prelude.{◌≡◌, ◌≢◌, ℕ, ◌<◌, ◌↔◌, true, false, List, [], None, Some, length, slice_index};
+ghost use Rattle.std.specs.Prelude.{◌≡◌, ◌≢◌, ◌∷◌, ℕ, ◌<◌, ◌↔◌, true, false, List, [], None, Some, length, slice_index};
 ghost use Rattle.std.specs.List.{All};
 ghost use lib.Chars.{codes};
 ghost use Rattle.dataset_tree.specs.declared.kinds.Format.TheVariants.{Hex, Passphrase};
 ghost use Rattle.encryption_roots.specs.Options.{no_options};
 ghost use Rattle.encryption_roots.specs.declared.props.Location.TheVariants.{Prompt, File};
 ghost use Rattle.shell_lines.specs.declared.line.Line.{Line};
-ghost use Rattle.shell_lines.specs.declared.line.Line.TheVariants.{Silent, Create, LoadKey, LoadBelow, LoadAll, UnloadBelow, ChangeKey, InheritKey};
+ghost use Rattle.shell_lines.specs.declared.line.Line.TheVariants.{Silent, Create, LoadKey, LoadBelow, LoadAll, UnloadBelow, ChangeKey, InheritKey, Touch, Remove, Write, Read, Truncate, Files, Verify, Snapshot, Clone, Destroy};
 ghost use Rattle.shell_lines.specs.Words.{words_of};
 ghost use Rattle.shell_lines.specs.Runs.{IsRun, IsInWord, StandFrom};
 ghost use Rattle.shell_lines.specs.Commands.{commands};
@@ -53,6 +53,37 @@ pub fn options_say_what_they_spell()
         }) true) }
     ensures inherited { line_of (codes "change-key -l -i t") 0 ≡ Ok (InheritKey (codes "t") true) }
     ensures kept { line_of (codes "change-key -o keyformat=hex -i t") 0 ≡ Err 28 }
+{}
+
+/// Values of the language: what sample lines on files say.
+#[tactic(auto, unfolding(hex::specs::Hex::decode_pairs))]
+pub fn file_lines_say_what_they_spell()
+    ensures made { line_of (codes "touch t f") 0 ≡ Ok (Touch (codes "t") (codes "f")) }
+    ensures removed { line_of (codes "rm t f") 0 ≡ Ok (Remove (codes "t") (codes "f")) }
+    ensures written { line_of (codes "write t f 0010 0aFf") 0
+        ≡ Ok (Write (codes "t") (codes "f") 10 (10 ∷ 255 ∷ [])) }
+    ensures odd { line_of (codes "write t f 0 abc") 0 ≡ Err 12 }
+    ensures no_digit { line_of (codes "write t f 0 0g") 0 ≡ Err 12 }
+    ensures no_bytes { line_of (codes "write t f 0") 0 ≡ Err 11 }
+    ensures eleven { line_of (codes "write t f 00000000000 01") 0 ≡ Err 10 }
+    ensures shown { line_of (codes "read t@s f 9999999999 16384") 0
+        ≡ Ok (Read (codes "t@s") (codes "f") 9999999999 16384) }
+    ensures too_long { line_of (codes "read t f 0 16385") 0 ≡ Err 11 }
+    ensures cut { line_of (codes "truncate t f 5") 0 ≡ Ok (Truncate (codes "t") (codes "f") 5) }
+    ensures files { line_of (codes "ls t") 0 ≡ Ok (Files (codes "t")) }
+    ensures tested { line_of (codes "verify t@s") 0 ≡ Ok (Verify (codes "t@s")) }
+    ensures named { line_of (codes "ls -r") 0 ≡ Ok (Files (codes "-r")) }
+{}
+
+/// Values of the language: what sample lines on snapshots say.
+pub fn snapshot_lines_say_what_they_spell()
+    ensures taken { line_of (codes "snapshot t@s") 0 ≡ Ok (Snapshot (codes "t@s")) }
+    ensures any_word { line_of (codes "snapshot t") 0 ≡ Ok (Snapshot (codes "t")) }
+    ensures cloned { line_of (codes "clone t@s c") 0 ≡ Ok (Clone (codes "t@s") (codes "c")) }
+    ensures nameless { line_of (codes "clone t@s") 0 ≡ Err 9 }
+    ensures destroyed { line_of (codes "destroy t@s") 0 ≡ Ok (Destroy (codes "t@s")) }
+    ensures named { line_of (codes "destroy -r") 0 ≡ Ok (Destroy (codes "-r")) }
+    ensures one { line_of (codes "destroy -r t") 0 ≡ Err 11 }
 {}
 
 /// The law of record sizes: that of a line, where it has one, is in form.

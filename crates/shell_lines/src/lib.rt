@@ -9,10 +9,10 @@ mod setting;
 mod words;
 
 pub use laws::{
-    bad_at_the_first_wrong_word, options_say_what_they_spell, record_sizes_are_in_form,
-    words_are_the_longest_runs,
+    bad_at_the_first_wrong_word, file_lines_say_what_they_spell, options_say_what_they_spell,
+    record_sizes_are_in_form, snapshot_lines_say_what_they_spell, words_are_the_longest_runs,
 };
-pub use line::{Line, LineStop, Word};
+pub use line::{Bytes, Line, LineStop, Word};
 pub use parse::parse_line;
 
 #[cfg(test)]

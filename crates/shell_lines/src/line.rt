@@ -37,6 +37,35 @@ impl Word {
     }
 }
 
+/// Bytes that hexadecimal digits of a line spell.
+#[derive(Debug, Drop)]
+pub struct Bytes {
+    bytes: Vec<u8>,
+}
+
+impl Model for Bytes {
+    ghost use Rattle.std.specs.Prelude.{List, ℕ};
+
+    ghost Value = { List ℕ };
+
+    ghost view = { λ spelled. spelled.bytes.items };
+}
+
+impl Bytes {
+    pub(crate) fn new(bytes: Vec<u8>) -> Bytes
+        ensures { result ≡ bytes.items }
+    {
+        Bytes { bytes }
+    }
+
+    /// The bytes.
+    pub fn as_bytes(&self) -> &[u8]
+        ensures { result.now ≡ self.now }
+    {
+        self.bytes.as_slice()
+    }
+}
+
 /// A line of the language.
 #[derive(Debug, Drop)]
 pub enum Line {
@@ -101,6 +130,57 @@ pub enum Line {
     Get {
         prop: Prop,
         name: Word,
+    },
+    /// `touch NAME FILE`: makes an empty file.
+    Touch {
+        name: Word,
+        file: Word,
+    },
+    /// `rm NAME FILE`
+    Remove {
+        name: Word,
+        file: Word,
+    },
+    /// `write NAME FILE NUM HEX`: these bytes from this offset on.
+    Write {
+        name: Word,
+        file: Word,
+        from: u64,
+        bytes: Bytes,
+    },
+    /// `read SPOT FILE NUM NUM`: from this offset on so many bytes, at most 16384, of a dataset's or a snapshot's file.
+    Read {
+        spot: Word,
+        file: Word,
+        from: u64,
+        len: u32,
+    },
+    /// `truncate NAME FILE NUM`: to this length.
+    Truncate {
+        name: Word,
+        file: Word,
+        to: u64,
+    },
+    /// `ls SPOT`: the files of a dataset or a snapshot.
+    Files {
+        spot: Word,
+    },
+    /// `verify SPOT`: tests all that a dataset or a snapshot holds.
+    Verify {
+        spot: Word,
+    },
+    /// `snapshot SNAPNAME`
+    Snapshot {
+        name: Word,
+    },
+    /// `clone SNAPNAME NAME`: a new dataset of what a snapshot holds.
+    Clone {
+        from: Word,
+        name: Word,
+    },
+    /// `destroy SPOT`: a dataset or a snapshot.
+    Destroy {
+        spot: Word,
     },
     /// `list`
     List,

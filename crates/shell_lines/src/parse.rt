@@ -1,21 +1,28 @@
 // From the bytes of a line to what it says.
-ghost use Rattle.std.specs.Prelude.{◌≡◌, ◌<◌, ◌^◌, ◌∷◌, [], if◌then◌else◌, List, ℕ, Result, Some, None, length, map, IfOk};
+ghost use Rattle.std.specs.Prelude.{◌≡◌, ◌<◌, ◌≤◌, ◌^◌, ◌∷◌, [], if◌then◌else◌, List, ℕ, Result, Some, None, length, map, IfOk, IfSome};
 ghost use Rattle.std.specs.List.{list_any};
 ghost use Rattle.shell_lines.specs.declared.line.Line.{Line};
 ghost use Rattle.shell_lines.specs.Sized.{HasRecordSize};
 ghost use Rattle.shell_lines.specs.Grammar.{Spells, line_of, is_comment, first_unprintable};
 ghost use Rattle.std.specs.Str.{bytes_eq};
 ghost use Rattle.shell_lines.specs.Left.{words_left, end_of, read_by, placed, texts, Reads};
-ghost use Rattle.shell_lines.specs.Commands.{commands, create, create_form, load_key, load_form, load_below_form, load_all_form, unload_key, unload_form, unload_below_form, unload_all_form, change_key, change_form, inherit_form, mount_form, unmount_form, get_form};
-ghost use Rattle.shell_lines.specs.Forms.{line_from, form_from, end_from, better};
-ghost use Rattle.shell_lines.specs.Reading.{word_from, a_name, a_property, the_word, property_of};
+ghost use Rattle.shell_lines.specs.Commands.{commands, create, create_form, load_key, load_form, load_below_form, load_all_form, unload_key, unload_form, unload_below_form, unload_all_form, change_key, change_form, inherit_form, mount_form, unmount_form, get_form, file_commands, touch_form, remove_form, write_form, read_form, truncate_form, files_form, verify_form, snapshot_commands, snapshot_form, clone_form, destroy_form};
+ghost use Rattle.shell_lines.specs.Forms.{line_from, command_from, form_from, end_from, better};
+ghost use Rattle.shell_lines.specs.Reading.{word_from, a_name, a_property, the_word, a_number, some_bytes, number_up_to, bytes_in, property_of};
 
-use crate::line::{Line, LineStop, Word};
+use crate::line::{Bytes, Line, LineStop, Word};
 use crate::option::{is_set, parse_options};
-use crate::setting::{OptionKind, load_place, options_with};
+use crate::setting::{OptionKind, load_place, number_of, options_with};
 use crate::words::{PlacedWord, Words};
 use encryption_roots::Prop;
-use std::alloc::Global;
+use hex::FromHexError;
+use std::alloc::{AllocError, Global};
+
+/// The greatest number that 10 decimal digits write.
+const GREATEST_NUMBER: u64 = 9_999_999_999;
+
+/// The most bytes that a line reads.
+const LONGEST_READ: u64 = 16_384;
 
 /// The options of `create`.
 const CREATE_OPTIONS: [OptionKind; 5] = [
@@ -104,6 +111,54 @@ fn parse_command(alloc: Global, command: PlacedWord<'_>, words: Words<'_>) -> Re
         parse_unmount(alloc, words)
     } else if command.text == b"get".as_slice() {
         parse_get(alloc, words)
+    } else {
+        parse_file_command(alloc, command, words)
+    }
+}
+
+/// The lines that work on files, and those behind them.
+fn parse_file_command(
+    alloc: Global,
+    command: PlacedWord<'_>,
+    words: Words<'_>,
+) -> Result<Line, LineStop>
+    ensures { Spells result
+        (command_from (end_of words.entry) file_commands (placed command.entry) (words_left words.entry)) }
+{
+    if command.text == b"touch".as_slice() {
+        parse_touch(alloc, words)
+    } else if command.text == b"rm".as_slice() {
+        parse_remove(alloc, words)
+    } else if command.text == b"write".as_slice() {
+        parse_write(alloc, words)
+    } else if command.text == b"read".as_slice() {
+        parse_read(alloc, words)
+    } else if command.text == b"truncate".as_slice() {
+        parse_truncate(alloc, words)
+    } else if command.text == b"ls".as_slice() {
+        parse_files(alloc, words)
+    } else if command.text == b"verify".as_slice() {
+        parse_verify(alloc, words)
+    } else {
+        parse_snapshot_command(alloc, command, words)
+    }
+}
+
+/// The lines that work on snapshots, and those without words.
+fn parse_snapshot_command(
+    alloc: Global,
+    command: PlacedWord<'_>,
+    words: Words<'_>,
+) -> Result<Line, LineStop>
+    ensures { Spells result
+        (command_from (end_of words.entry) snapshot_commands (placed command.entry) (words_left words.entry)) }
+{
+    if command.text == b"snapshot".as_slice() {
+        parse_snapshot(alloc, words)
+    } else if command.text == b"clone".as_slice() {
+        parse_clone(alloc, words)
+    } else if command.text == b"destroy".as_slice() {
+        parse_destroy(alloc, words)
     } else if command.text == b"list".as_slice() {
         parse_end(Some(Line::List), words)
     } else if command.text == b"counts".as_slice() {
@@ -276,6 +331,109 @@ fn parse_get(alloc: Global, mut words: Words<'_>) -> Result<Line, LineStop>
     parse_end(Some(Line::Get { prop, name }), words)
 }
 
+/// `touch NAME FILE`
+fn parse_touch(alloc: Global, mut words: Words<'_>) -> Result<Line, LineStop>
+    ensures { Spells result (form_from (end_of words.entry) [] touch_form (words_left words.entry)) }
+{
+    let name = parse_name(alloc, &[], &mut words)?;
+    let file = parse_name(alloc, &[], &mut words)?;
+    parse_end(Some(Line::Touch { name, file }), words)
+}
+
+/// `rm NAME FILE`
+fn parse_remove(alloc: Global, mut words: Words<'_>) -> Result<Line, LineStop>
+    ensures { Spells result (form_from (end_of words.entry) [] remove_form (words_left words.entry)) }
+{
+    let name = parse_name(alloc, &[], &mut words)?;
+    let file = parse_name(alloc, &[], &mut words)?;
+    parse_end(Some(Line::Remove { name, file }), words)
+}
+
+/// `write NAME FILE NUM HEX`
+fn parse_write(alloc: Global, mut words: Words<'_>) -> Result<Line, LineStop>
+    ensures { Spells result (form_from (end_of words.entry) [] write_form (words_left words.entry)) }
+{
+    let name = parse_name(alloc, &[], &mut words)?;
+    let file = parse_name(alloc, &[], &mut words)?;
+    let from = parse_number(GREATEST_NUMBER, &mut words)?;
+    let bytes = parse_bytes(alloc, &mut words)?;
+    let line = Line::Write {
+        name,
+        file,
+        from,
+        bytes,
+    };
+    parse_end(Some(line), words)
+}
+
+/// `read SPOT FILE NUM NUM`
+fn parse_read(alloc: Global, mut words: Words<'_>) -> Result<Line, LineStop>
+    ensures { Spells result (form_from (end_of words.entry) [] read_form (words_left words.entry)) }
+{
+    let spot = parse_name(alloc, &[], &mut words)?;
+    let file = parse_name(alloc, &[], &mut words)?;
+    let from = parse_number(GREATEST_NUMBER, &mut words)?;
+    let len = parse_number(LONGEST_READ, &mut words)? as u32;
+    let line = Line::Read {
+        spot,
+        file,
+        from,
+        len,
+    };
+    parse_end(Some(line), words)
+}
+
+/// `truncate NAME FILE NUM`
+fn parse_truncate(alloc: Global, mut words: Words<'_>) -> Result<Line, LineStop>
+    ensures { Spells result (form_from (end_of words.entry) [] truncate_form (words_left words.entry)) }
+{
+    let name = parse_name(alloc, &[], &mut words)?;
+    let file = parse_name(alloc, &[], &mut words)?;
+    let to = parse_number(GREATEST_NUMBER, &mut words)?;
+    parse_end(Some(Line::Truncate { name, file, to }), words)
+}
+
+/// `ls SPOT`
+fn parse_files(alloc: Global, mut words: Words<'_>) -> Result<Line, LineStop>
+    ensures { Spells result (form_from (end_of words.entry) [] files_form (words_left words.entry)) }
+{
+    let spot = parse_name(alloc, &[], &mut words)?;
+    parse_end(Some(Line::Files { spot }), words)
+}
+
+/// `verify SPOT`
+fn parse_verify(alloc: Global, mut words: Words<'_>) -> Result<Line, LineStop>
+    ensures { Spells result (form_from (end_of words.entry) [] verify_form (words_left words.entry)) }
+{
+    let spot = parse_name(alloc, &[], &mut words)?;
+    parse_end(Some(Line::Verify { spot }), words)
+}
+
+/// `snapshot SNAPNAME`
+fn parse_snapshot(alloc: Global, mut words: Words<'_>) -> Result<Line, LineStop>
+    ensures { Spells result (form_from (end_of words.entry) [] snapshot_form (words_left words.entry)) }
+{
+    let name = parse_name(alloc, &[], &mut words)?;
+    parse_end(Some(Line::Snapshot { name }), words)
+}
+
+/// `clone SNAPNAME NAME`
+fn parse_clone(alloc: Global, mut words: Words<'_>) -> Result<Line, LineStop>
+    ensures { Spells result (form_from (end_of words.entry) [] clone_form (words_left words.entry)) }
+{
+    let from = parse_name(alloc, &[], &mut words)?;
+    let name = parse_name(alloc, &[], &mut words)?;
+    parse_end(Some(Line::Clone { from, name }), words)
+}
+
+/// `destroy SPOT`
+fn parse_destroy(alloc: Global, mut words: Words<'_>) -> Result<Line, LineStop>
+    ensures { Spells result (form_from (end_of words.entry) [] destroy_form (words_left words.entry)) }
+{
+    let spot = parse_name(alloc, &[], &mut words)?;
+    parse_end(Some(Line::Destroy { spot }), words)
+}
+
 /// The name that stands next, for a command with these options.
 fn parse_name(alloc: Global, options: &[&[u8]], words: &mut Words<'_>) -> Result<Word, LineStop>
     ensures reads { Reads result (words_left words.new)
@@ -310,6 +468,60 @@ fn parse_word(text: &[u8], words: &mut Words<'_>) -> Result<(), LineStop>
         Ok(())
     } else {
         Err(word.wrong())
+    }
+}
+
+/// The number that stands next, at most this one.
+fn parse_number(most: u64, words: &mut Words<'_>) -> Result<u64, LineStop>
+    ensures reads { Reads result (words_left words.new)
+        (word_from (end_of words.old) [] (a_number most) (words_left words.old)) }
+    ensures end { end_of words.new ≡ end_of words.old }
+    ensures most { IfOk result (λ number. number ≤ most) }
+{
+    let Some(word) = words.next() else {
+        return Err(words.missing());
+    };
+    number_up_to(most, word.text).ok_or(word.wrong())
+}
+
+/// The number of 1 to 10 decimal digits, where it is at most this one.
+fn number_up_to(most: u64, word: &[u8]) -> Option<u64>
+    ensures number { result ≡ number_up_to most word.now }
+    ensures most { IfSome result (λ number. number ≤ most) }
+{
+    match number_of(word) {
+        Some(number) if number <= most => Some(number),
+        _ => None,
+    }
+}
+
+/// The bytes that stand next in hexadecimal digits.
+fn parse_bytes(alloc: Global, words: &mut Words<'_>) -> Result<Bytes, LineStop>
+    ensures reads { Reads result (words_left words.new)
+        (word_from (end_of words.old) [] some_bytes (words_left words.old)) }
+    ensures end { end_of words.new ≡ end_of words.old }
+{
+    let Some(word) = words.next() else {
+        return Err(words.missing());
+    };
+    match bytes_in(alloc, word.text) {
+        Ok(Some(bytes)) => Ok(bytes),
+        Ok(None) => Err(word.wrong()),
+        Err(_) => Err(LineStop::NoMemory),
+    }
+}
+
+/// The bytes that 2 or more hexadecimal digits spell; None where the word is no such digits.
+fn bytes_in(alloc: Global, word: &[u8]) -> Result<Option<Bytes>, AllocError>
+    ensures { IfOk result (λ bytes. bytes ≡ bytes_in word.now) }
+{
+    if word.len() < 2 {
+        return Ok(None);
+    }
+    match hex::decode(alloc, word) {
+        Ok(bytes) => Ok(Some(Bytes::new(bytes))),
+        Err(FromHexError::OutOfMemory) => Err(AllocError),
+        Err(_) => Ok(None),
     }
 }
 

@@ -298,7 +298,7 @@ fn iterations_value(value: &[u8]) -> Option<Setting>
 }
 
 /// The number that 1 to 10 decimal digits write.
-fn number_of(text: &[u8]) -> Option<u64>
+pub(crate) fn number_of(text: &[u8]) -> Option<u64>
     ensures { result ≡ number_of text.now }
 {
     if text.is_empty() || text.len() > 10 {

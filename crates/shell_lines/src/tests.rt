@@ -7,7 +7,7 @@ use std::alloc::Global;
 use std::test::Fail;
 
 /// Lines that aren't in the language, and the offset at which each is bad.
-const BAD_LINES: [(&[u8], u32); 49] = [
+const BAD_LINES: [(&[u8], u32); 62] = [
     (b"frob tank", 0),
     (b" #x", 1),
     (b"create  ", 8),
@@ -56,6 +56,19 @@ const BAD_LINES: [(&[u8], u32); 49] = [
     (b"get", 3),
     (b"get foo tank", 4),
     (b"get keystatus", 13),
+    (b"touch a", 7),
+    (b"touch a f g", 10),
+    (b"rm a -f f", 8),
+    (b"write a f 0 0", 12),
+    (b"write a f -1 00", 10),
+    (b"read a f 0 16385", 11),
+    (b"truncate a f 12345678901", 13),
+    (b"ls", 2),
+    (b"verify a b", 9),
+    (b"snapshot", 8),
+    (b"snapshot a@s b", 13),
+    (b"clone a@s", 9),
+    (b"destroy -r a", 11),
     (b"list x", 5),
     (b"list\tx", 4),
     (b"frob \x1f", 5),
@@ -106,6 +119,26 @@ fn options_stand_in_any_order(rt: HostRuntime) -> Result<(), Fail> {
     assert_eq!(rt; place_of(&opts.place), b"/k".as_slice());
     assert_eq!(rt; opts.iters, Some(100_000));
     assert_eq!(rt; opts.block, Some(512));
+    Ok(())
+}
+
+#[test]
+fn a_write_has_the_bytes_of_its_digits(rt: HostRuntime) -> Result<(), Fail> {
+    let Line::Write {
+        name,
+        file,
+        from,
+        bytes,
+    } = parse_line(rt.alloc(), b"write a f 0010 0aFf", 0)?
+    else {
+        return Err("no write".into());
+    };
+    assert_eq!(rt;
+        (name.as_bytes(), file.as_bytes()),
+        (b"a".as_slice(), b"f".as_slice())
+    );
+    assert_eq!(rt; (from, bytes.as_bytes()), (10, [0x0a, 0xff].as_slice()));
+    file_lines_say_what_they_spell();
     Ok(())
 }
 
@@ -170,24 +203,39 @@ fn form_of(line: &Line) -> (&[u8], bool) {
 }
 
 #[test]
-fn each_command_has_a_line(rt: HostRuntime) -> Result<(), Fail> {
+fn lines_about_keys_have_their_forms(rt: HostRuntime) -> Result<(), Fail> {
     let alloc = rt.alloc();
-    assert!(rt; matches!(parse_line(alloc, b"", 0)?, Line::Silent));
-    assert!(rt; matches!(parse_line(alloc, b"<\x00\xff", 2)?, Line::Silent));
     for (bytes, form, flag) in KEY_LINES {
         assert!(rt; bytes.len() < 100);
         let line = parse_line(alloc, bytes, 0)?;
         assert_eq!(rt; form_of(&line).0, form, "at {bytes:?}");
         assert_eq!(rt; form_of(&line).1, flag, "at {bytes:?}");
     }
+    Ok(())
+}
+
+#[test]
+fn each_command_has_a_line(rt: HostRuntime) -> Result<(), Fail> {
+    let alloc = rt.alloc();
+    assert!(rt; matches!(parse_line(alloc, b"", 0)?, Line::Silent));
+    assert!(rt; matches!(parse_line(alloc, b"<\x00\xff", 2)?, Line::Silent));
     assert!(rt; matches!(parse_line(alloc, b"get encryption a", 0)?, Line::Get { .. }));
     assert!(rt; matches!(parse_line(alloc, b"mount -o", 0)?, Line::Mount { .. }));
     assert!(rt; matches!(parse_line(alloc, b"unmount a", 0)?, Line::Unmount { .. }));
+    assert!(rt;
+        matches!(
+            parse_line(alloc, b"snapshot a@s", 0)?,
+            Line::Snapshot { .. }
+        )
+    );
+    assert!(rt; matches!(parse_line(alloc, b"clone a@s b", 0)?, Line::Clone { .. }));
+    assert!(rt; matches!(parse_line(alloc, b"destroy -r", 0)?, Line::Destroy { .. }));
     assert!(rt; matches!(parse_line(alloc, b"  list ", 0)?, Line::List));
     assert!(rt; matches!(parse_line(alloc, b"counts", 0)?, Line::Counts));
     bad_at_the_first_wrong_word();
     options_say_what_they_spell();
     record_sizes_are_in_form();
+    snapshot_lines_say_what_they_spell();
     words_are_the_longest_runs();
     Ok(())
 }
