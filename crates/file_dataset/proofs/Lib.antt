@@ -4,7 +4,6 @@ pub mod StepLemmas
 pub mod NoteLemmas
 pub mod ReadLemmas
 pub mod TestLemmas
-pub mod SampleLemmas
 pub mod LeastLemmas
 pub mod FileLists
 pub mod ObjectLemmas

@@ -1,4 +1,4 @@
--- The guid of a family stays, over plain variables: for the tests.
+-- The guid of a family stays, over plain variables: for callers.
 use Rattle.std.proofs.Common.{◌≡◌, ℕ, Bool, true, false, List, refl, ap, ◌∙◌, Result, Ok, Err}
 use Rattle.std.specs.Prelude.{if◌then◌else◌, is_err}
 use Rattle.dataset_tree.specs.declared.refusal.Refusal.{Refusal}

@@ -2,7 +2,6 @@ pub mod Portable
 pub mod Reads
 pub mod Calls
 pub mod Steps
-pub mod Sample
 pub mod Least
 pub mod Edits
 pub mod Files

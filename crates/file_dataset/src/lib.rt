@@ -40,12 +40,3 @@ pub use reply::FileReply;
 pub use steady_laws::{calls_on_sample_families, steady_families_determine_calls};
 pub use surface::{names, read_at, verify_head};
 pub use wrote::Wrote;
-
-#[cfg(test)]
-mod change_tests;
-#[cfg(test)]
-mod line_tests;
-#[cfg(test)]
-mod tests;
-#[cfg(test)]
-mod trial;

@@ -1,5 +1,5 @@
 use Rattle.file_dataset.proofs.TrialLemmas.{guid_read}
-use Rattle.file_dataset.proofs.trial.Trial.count.Goals as goal
+use Rattle.file_trials.proofs.trial.Trial.count.Goals as goal
 
 pub invariant_of-self : goal.invariant_of-self
 invariant_of-self c = record { guid = guid_read _ _ _ _ _ c.verify_head.ensures.left c.args.self.now.guid }

@@ -1,4 +1,4 @@
--- A directory of two files, for the tests: `a` is object 2 and has 1030 bytes, `b` is object 3 and has 6.
+-- A directory of two files, for trials: `a` is object 2 and has 1030 bytes, `b` is object 3 and has 6.
 use Rattle.std.specs.Prelude.{ℕ, List, [], ◌∷◌, Some}
 use Rattle.family_log.specs.declared.table.Table.{Table}
 use Rattle.family_log.specs.declared.table.TableRow.{TableRow}

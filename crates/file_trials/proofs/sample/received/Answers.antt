@@ -1,5 +1,5 @@
-use Rattle.file_dataset.proofs.SampleLemmas.{sample_change}
-use Rattle.file_dataset.proofs.tests.received.Goals as goal
+use Rattle.file_trials.proofs.SampleLemmas.{sample_change}
+use Rattle.file_trials.proofs.sample.received.Goals as goal
 
 pub append_write-requires : goal.append_write-requires
 append_write-requires c =

@@ -1,20 +1,16 @@
--- The table and the entry of the tests, and the guid of a family that was read.
+-- The table and the entry of the sampled family.
 use Rattle.std.proofs.Common.{◌≡◌, ℕ, ◌<◌, ◌≤◌, Bool, true, false, List, [], ◌∷◌, refl, ap, ◌∙◌, arith, lit≤, Result, Ok, Err, if◌then◌else◌}
 use Rattle.std.specs.Prelude.{◌==◌, is_err}
 use Rattle.std.proofs.lemmas.List.Elements.{All-cons}
 use Rattle.std.proofs.lemmas.List.Kept.{AllPairs-cons}
-use Rattle.dataset_tree.specs.declared.refusal.Stop.{Stop}
-use Rattle.dataset_tree.specs.declared.refusal.Stop.TheVariants as stops
 use Rattle.family_log.specs.declared.table.Table.{Table}
 use Rattle.family_log.specs.declared.table.TableRow.{TableRow}
-use Rattle.family_log.specs.declared.entry.Spot.{Spot}
 use Rattle.family_log.specs.declared.entry.HeadChange.{HeadChange}
 use Rattle.family_log.specs.Tables.{IsRow, IsTable, length_in}
 use Rattle.family_log.specs.Log.{head_spot, last_length, newest}
 use Rattle.family_log.specs.Model.{FamilyState}
 use Rattle.family_log.specs.Calls.{IsChangeOf, new_place}
-use Rattle.file_dataset.specs.Calls.{Reads, with_note}
-use Rattle.file_dataset.specs.Sample.{sample_row, sample_table, sample_entry, fresh_entry}
+use Rattle.file_trials.specs.Sample.{sample_row, sample_table, sample_entry, fresh_entry}
 
 by_space : {P : Type 0} (b : Bool) → (b ≡ true → P) → (b ≡ false → P) → P
 by_space true yes_case no_case = yes_case refl
@@ -72,20 +68,3 @@ sample_change family d f s portable change block log table entry = record {
   table = rw (block, table) (sample_table-is_table d f s portable);
   lengths = λ object. rw (table, log, entry) (sample_length d f s portable object);
 }
-
--- ---- a reading keeps the guid
-
-kept : {X : Type 0} (spot : Spot) (r : Result X Stop) (family : FamilyState) → (with_note spot r family).guid ≡ family.guid
-kept spot (Ok x) family = refl
-kept spot (Err (stops.Refused why)) family = refl
-kept spot (Err stops.NoMemory) family = refl
-
-kept_either : {X : Type 0} (b : Bool) (spot : Spot) (r : Result X Stop) (family : FamilyState)
-    → (if b then family else with_note spot r family).guid ≡ family.guid
-kept_either true spot r family = refl
-kept_either false spot r family = kept spot r family
-
-pub guid_kept : {X : Type 0} (most : Table → ℕ) (spot : Spot) (r : Result X Stop) (old new : FamilyState) → Reads most spot r old new
-    → new.guid ≡ old.guid
-guid_kept most spot r old new reads =
-    ap (λ (family : FamilyState). family.guid) reads.left ∙ kept_either (is_err (new_place old spot.head)) spot r _

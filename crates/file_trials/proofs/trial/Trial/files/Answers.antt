@@ -1,5 +1,5 @@
 use Rattle.file_dataset.proofs.TrialLemmas.{guid_read}
-use Rattle.file_dataset.proofs.trial.Trial.rows.Goals as goal
+use Rattle.file_trials.proofs.trial.Trial.files.Goals as goal
 
 pub invariant_of-self : goal.invariant_of-self
 invariant_of-self c = record { guid = guid_read _ _ _ _ _ c.names.ensures.left c.args.self.now.guid }
