@@ -1,3 +1,7 @@
 pub mod ChangeLemmas
 pub mod PairedLemmas
 pub mod HostLemmas
+pub mod FileLemmas
+pub mod UndoLemmas
+pub mod SpotLemmas
+pub mod SpotHosts

@@ -11,6 +11,7 @@ use Rattle.byte_fields.specs.LittleEndian.{little_endian_bytes, little_endian_va
 use Rattle.byte_fields.proofs.FieldLaws.{length-little_endian_bytes, little_endian_value-bytes}
 use Rattle.dataset_tree.specs.declared.kinds.Suite.{Suite}
 use Rattle.dataset_tree.specs.declared.refusal.Refusal.{Refusal}
+use Rattle.dataset_tree.specs.Tree.{id_named}
 use Rattle.encryption_roots.specs.declared.command.KeyCmd.{KeyCmd}
 use Rattle.encryption_roots.specs.declared.command.KeyCmd.TheVariants as commands
 use Rattle.encryption_roots.specs.declared.kit.LineKit.{LineKit}
@@ -27,7 +28,7 @@ use Rattle.key_machine.specs.Mount.{mount_done, mounted_at, mounted_on, free_slo
 use Rattle.key_machine.specs.Plain.{Plain, Stored, Master, owner_of, is_same, owned}
 use Rattle.key_machine.specs.Reap.{own_in_use, reaped, reap_step}
 use Rattle.key_machine.specs.Rekey.{sealed_anew, rewrapped, told_anew, with_record, with_records}
-use Rattle.key_machine.specs.Reply.{Stepped}
+use Rattle.key_machine.specs.Reply.{Stepped, Reply, Done, Made, Text, Refused, Reaped, Skipped}
 use Rattle.key_machine.specs.Step.{in_use, key_step, target, told}
 use Rattle.key_machine.specs.Told.{Told}
 use Rattle.key_machine.specs.Unload.{InUse, unload_done}
@@ -36,7 +37,7 @@ use Rattle.key_machine.proofs.KeyLists.{All-kept, at_id_is, each_found}
 use Rattle.key_machine.proofs.SoundLemmas.{by_step, done}
 use Rattle.salt_rotation.specs.Places.{vector_place}
 use Rattle.key_ciphers.specs.Ciphers.{ciphers, value_of, master_of, with_guid}
-use Rattle.host_state.specs.Hosts.{KeyFacts, guid_in, facts_of_record, by_id}
+use Rattle.host_state.specs.Hosts.{KeyFacts, guid_in, facts_of_record, by_id, reaped_at, reaped_if, with_reap}
 
 -- ---- the guid in a stored record
 
@@ -165,21 +166,23 @@ inherit_written p rising load_first kit (Some id) =
 
 -- ---- the commands
 
--- a state's records have the facts that those of another had
+-- a state's records have the facts that those of another had, and its tree gave no other id last
 abbrev pub SameFacts : Plain → Plain → Type 0
-SameFacts p q = by_id facts_of_record q.wrapped ≡ by_id facts_of_record p.wrapped
+SameFacts p q = (by_id facts_of_record q.wrapped ≡ by_id facts_of_record p.wrapped) × (q.tree.last ≡ p.tree.last)
 
 changed_facts : (p : Plain) → IsRisingById p.wrapped → (opts : Options) (facts : Told) → All (WrittenFor p.wrapped) facts.wrapped → (at : Option ℕ) → SameFacts p (change_done p opts facts at).state
-changed_facts p rising opts facts written None = refl
-changed_facts p rising opts facts written (Some id) = records_alike p.wrapped (owner_of (with_own_root p id opts facts.salt)) id facts.wrapped written p.wrapped (each_found p.wrapped rising)
+changed_facts p rising opts facts written None = (refl, refl)
+changed_facts p rising opts facts written (Some id) =
+    (records_alike p.wrapped (owner_of (with_own_root p id opts facts.salt)) id facts.wrapped written p.wrapped (each_found p.wrapped rising), refl)
 
 inherited_facts : (p : Plain) → IsRisingById p.wrapped → (facts : Told) → All (WrittenFor p.wrapped) facts.wrapped → (at : Option ℕ) → SameFacts p (inherit_done p facts at).state
-inherited_facts p rising facts written None = refl
-inherited_facts p rising facts written (Some id) = records_alike p.wrapped (owner_of p) id facts.wrapped written p.wrapped (each_found p.wrapped rising)
+inherited_facts p rising facts written None = (refl, refl)
+inherited_facts p rising facts written (Some id) =
+    (records_alike p.wrapped (owner_of p) id facts.wrapped written p.wrapped (each_found p.wrapped rising), refl)
 
 -- a step of which so much is known where it is carried out
 stepped_facts : (p : Plain) (command : KeyCmd) (facts : Told) → SameFacts p (done p command facts).state → SameFacts p (key_step p command facts).state
-stepped_facts p command facts same = by_step p command facts (λ (s : Stepped). SameFacts p s.state) (λ accepted. same) (λ why state. refl) (λ why material. refl)
+stepped_facts p command facts same = by_step p command facts (λ (s : Stepped). SameFacts p s.state) (λ accepted. same) (λ why state. (refl, refl)) (λ why material. (refl, refl))
 
 pub change_same : (p : Plain) → IsRisingById p.wrapped → (name : List ℕ) (opts : Options) (load_first : Bool) (kit : LineKit) → let command : KeyCmd = commands.Change name opts load_first in SameFacts p (key_step p command (told ciphers p command kit)).state
 change_same p rising name opts load_first kit =
@@ -194,51 +197,68 @@ inherit_same p rising name load_first kit =
     stepped_facts p command facts (inherited_facts p rising facts (inherit_written p rising load_first kit (target p command)) (target p command))
 
 load_at : (p : Plain) (check_only : Bool) (facts : Told) (at : Option ℕ) → SameFacts p (load_done p check_only facts at).state
-load_at p check_only facts None = refl
-load_at p true facts (Some root) = refl
-load_at p false facts (Some root) = refl
+load_at p check_only facts None = (refl, refl)
+load_at p true facts (Some root) = (refl, refl)
+load_at p false facts (Some root) = (refl, refl)
 
 pub load_same : (p : Plain) (name : List ℕ) (check_only : Bool) (place : Option Location) (facts : Told) → SameFacts p (key_step p (commands.Load name check_only place) facts).state
 load_same p name check_only place facts =
     let command : KeyCmd = commands.Load name check_only place in stepped_facts p command facts (load_at p check_only facts (target p command))
 
 unload_at : (p : Plain) (found : Option InUse) (at : Option ℕ) → SameFacts p (unload_done p found at).state
-unload_at p found None = refl
-unload_at p None (Some root) = refl
-unload_at p (Some busy) (Some root) = refl
+unload_at p found None = (refl, refl)
+unload_at p None (Some root) = (refl, refl)
+unload_at p (Some busy) (Some root) = (refl, refl)
 
 pub unload_same : (p : Plain) (name : List ℕ) (facts : Told) → SameFacts p (key_step p (commands.Unload name) facts).state
 unload_same p name facts = let command : KeyCmd = commands.Unload name in stepped_facts p command facts (unload_at p (in_use p command) (target p command))
 
 mount_on : (p : Plain) (id : ℕ) (free : Option ℕ) → SameFacts p (mounted_on p id free).state
-mount_on p id None = refl
-mount_on p id (Some slot) = refl
+mount_on p id None = (refl, refl)
+mount_on p id (Some slot) = (refl, refl)
 
 mount_at : (p : Plain) (id : ℕ) (slot : Option ℕ) → SameFacts p (mounted_at p id slot).state
 mount_at p id None = mount_on p id (free_slot p)
-mount_at p id (Some slot) = refl
+mount_at p id (Some slot) = (refl, refl)
 
 mount_of : (p : Plain) (at : Option ℕ) → SameFacts p (mount_done p at).state
-mount_of p None = refl
+mount_of p None = (refl, refl)
 mount_of p (Some id) = mount_at p id (at_id id p.mapped)
 
 pub mount_same : (p : Plain) (name : List ℕ) (facts : Told) → SameFacts p (key_step p (commands.Mount name) facts).state
 mount_same p name facts = let command : KeyCmd = commands.Mount name in stepped_facts p command facts (mount_of p (target p command))
 
 unmount_at : (p : Plain) (at : Option ℕ) → SameFacts p (unmount_done p at).state
-unmount_at p None = refl
-unmount_at p (Some id) = refl
+unmount_at p None = (refl, refl)
+unmount_at p (Some id) = (refl, refl)
 
-pub unmount_same : (p : Plain) (name : List ℕ) (facts : Told) → SameFacts p (key_step p (commands.Unmount name) facts).state
+unmount_same : (p : Plain) (name : List ℕ) (facts : Told) → SameFacts p (key_step p (commands.Unmount name) facts).state
 unmount_same p name facts = let command : KeyCmd = commands.Unmount name in stepped_facts p command facts (unmount_at p (target p command))
 
-reaped_of : (p : Plain) (dataset : ℕ) (slot : Option ℕ) (found : Option InUse) → (reaped p dataset slot found).state.wrapped ≡ p.wrapped
-reaped_of p dataset None found = refl
-reaped_of p dataset (Some slot) None = refl
-reaped_of p dataset (Some slot) (Some busy) = refl
+reaped_of : (p : Plain) (dataset : ℕ) (slot : Option ℕ) (found : Option InUse) → SameFacts p (reaped p dataset slot found).state
+reaped_of p dataset None found = (refl, refl)
+reaped_of p dataset (Some slot) None = (refl, refl)
+reaped_of p dataset (Some slot) (Some busy) = (refl, refl)
 
-pub reap_same : (p : Plain) (id : ℕ) → (reap_step p id).state.wrapped ≡ p.wrapped
-reap_same p id = reaped_of p id (at_id id p.mapped) (own_in_use p id)
+same_then : (p q r : Plain) → SameFacts p q → SameFacts q r → SameFacts p r
+same_then p q r first later = (later.0 ∙ first.0, later.1 ∙ first.1)
+
+reaped_same : (p q : Plain) (at : Option ℕ) → SameFacts p q → SameFacts p (reaped_at at q)
+reaped_same p q None same = same
+reaped_same p q (Some id) same = same_then p q (reap_step q id).state same (reaped_of q id (at_id id q.mapped) (own_in_use q id))
+
+reaped_behind_same : (p q : Plain) (reply : Reply) (at : Option ℕ) → SameFacts p q → SameFacts p (reaped_if reply at q)
+reaped_behind_same p q Done at same = reaped_same p q at same
+reaped_behind_same p q (Made id) at same = same
+reaped_behind_same p q (Text text) at same = same
+reaped_behind_same p q (Refused why) at same = same
+reaped_behind_same p q (Reaped dataset dropped) at same = same
+reaped_behind_same p q Skipped at same = same
+
+pub unmount_reaped_same : (p : Plain) (name : List ℕ) (facts : Told) → SameFacts p (with_reap name (key_step p (commands.Unmount name) facts)).state
+unmount_reaped_same p name facts =
+    let step : Stepped = key_step p (commands.Unmount name) facts in
+    reaped_behind_same p step.state step.reply (id_named name step.state.tree.rows) (unmount_same p name facts)
 
 -- ---- a new dataset
 

@@ -1,5 +1,5 @@
 -- A host, and what a command does to it: to its keystore, and to the families of its encrypted datasets.
-use Rattle.std.specs.Prelude.{◌≡◌, ℕ, ◌≤◌, Bool, List, [], map, unwrap_or, if◌then◌else◌, take, Result, Ok, Err}
+use Rattle.std.specs.Prelude.{◌≡◌, ℕ, ◌≤◌, Bool, true, List, [], map, unwrap_or, if◌then◌else◌, take, IfSome, Result, Ok, Err}
 use Rattle.std.specs.declared.option.Option.{Option}
 use Rattle.std.specs.declared.option.Option.TheVariants.{Some, None}
 use Rattle.byte_fields.specs.LittleEndian.{little_endian_value}
@@ -12,19 +12,21 @@ use Rattle.encryption_roots.specs.declared.kit.LineKit.{LineKit}
 use Rattle.encryption_roots.specs.declared.kit.SeedGot.{SeedGot}
 use Rattle.encryption_roots.specs.declared.kit.SeedGot.TheVariants as seeds
 use Rattle.encryption_roots.specs.declared.props.Options.{Options}
-use Rattle.encryption_roots.specs.ById.{IsRisingById, with_id}
+use Rattle.encryption_roots.specs.ById.{IsRisingById, at_id, with_id}
 use Rattle.salt_rotation.specs.Places.{hmac_place, guid_place, salts_seed_place}
 use Rattle.salt_rotation.specs.SaltState.{SaltState}
 use Rattle.salt_rotation.specs.SeedWords.{seed_bytes}
 use Rattle.family_log.specs.Model.{FamilyState, fresh_family}
 use Rattle.family_log.specs.Tables.{fresh_table}
 use Rattle.file_dataset.specs.Portable.{portable}
+use Rattle.file_dataset.specs.Steady.{IsSteady}
 use Rattle.key_machine.specs.Create.{makes_encrypted}
 use Rattle.key_machine.specs.Limits.{default_record_size}
 use Rattle.key_machine.specs.Plain.{Plain, Stored, no_keys}
 use Rattle.key_machine.specs.Reap.{reap_step}
 use Rattle.key_machine.specs.Reply.{Stepped, Reply, Done, Made, Text, Refused, Reaped, Skipped}
 use Rattle.key_store.specs.Calls.{stepped}
+use Rattle.snap_clone.specs.Ids.{IsUpTo}
 
 -- ---- a host
 
@@ -59,10 +61,13 @@ abbrev pub by_id : {X Y : Type 0} → (X → Y) → List (ℕ × X) → List (�
 by_id of entries = map (λ entry. (entry.0, of entry.1)) entries
 
 -- What a host keeps: it has a family for each key record and no other, which has that record's guid and record size;
--- and the limit is one that salts can have.
-pub record IsHost (keys : Plain) (families : List (ℕ × FamilyState)) (limit : ℕ) : Type 0 where
+-- where its shelves tell what was put on them each family is steady; no family has a head or an entry above the last id
+-- that the tree gave; and the limit is one that salts can have.
+pub record IsHost (tells : Bool) (keys : Plain) (families : List (ℕ × FamilyState)) (limit : ℕ) : Type 0 where
   pub rising : IsRisingById families
   pub paired : by_id facts_of_family families ≡ by_id facts_of_record keys.wrapped
+  pub steady : tells ≡ true → (id : ℕ) → IfSome (at_id id families) IsSteady
+  pub up_to : (id : ℕ) → IfSome (at_id id families) (IsUpTo keys.tree.last)
   pub least : 1 ≤ limit
   pub most : limit ≤ 400000000
 

@@ -1,1 +1,5 @@
 pub mod Hosts
+pub mod FileLines
+pub mod FileAnswers
+pub mod SpotLines
+pub mod SpotAnswers

@@ -84,7 +84,8 @@ fn seeded_family<B: Shelf>(
     )
 }
 
-fn seeded_guid(words: &SeedWords) -> u64
+/// The guid of a family by its seed, and of a snapshot.
+pub(crate) fn seeded_guid(words: &SeedWords) -> u64
     ensures { result ≡ seeded_guid words.now }
 {
     let mut bytes = [0; 8];

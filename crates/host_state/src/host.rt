@@ -47,7 +47,7 @@ impl<B: Shelf> Model for Host<B> {
       tells = B.tells;
     } };
 
-    ghost invariant = { λ host. IsHost host.keys host.families.items host.limit };
+    ghost invariant = { λ host. IsHost B.tells host.keys host.families.items host.limit };
 }
 
 impl<B: Shelf> Host<B> {
@@ -210,5 +210,9 @@ impl<B: Shelf> Host<B> {
     }
 }
 
+mod files;
+#[cfg(test)]
+mod spot_tests;
+mod spots;
 #[cfg(test)]
 mod tests;

@@ -189,6 +189,27 @@ impl LoneKeys {
         }
     }
 
+    /// Makes a dataset that is a clone of an encrypted one, and gives its id.
+    pub(crate) fn add_clone(&mut self, from: &SetName, name: &SetName) -> Result<u32, Stop>
+        ensures reply { AnswersMade result (key_step self.old (commands.Clone from.now name.now) nothing_told).reply }
+        ensures state { self.new ≡ state_after result self.old
+            (key_step self.old (commands.Clone from.now name.now) nothing_told).state }
+    {
+        self.keys.add_clone(from, name)
+    }
+
+    /// Destroys a dataset, of which this says whether it has snapshots.
+    pub(crate) fn destroy(&mut self, name: &SetName, snaps: bool) -> Result<(), Refusal>
+        ensures reply { AnswersUnloaded result (key_step self.old (commands.Destroy name.now snaps) nothing_told).reply }
+        ensures state { self.new ≡ (key_step self.old (commands.Destroy name.now snaps) nothing_told).state }
+    {
+        states_are_sound(&self.keys);
+        match self.keys.tree().find(name) {
+            Some(id) => self.keys.destroy(&mut self.words, &(), id, snaps),
+            None => Err(Refusal::NoSuch),
+        }
+    }
+
     /// How many use each loaded key and each mapping.
     pub(crate) fn counts(&mut self) -> Result<Counts, NoMemory>
         ensures counts { IfOk result (λ found. found ≡ counts self.old) }

@@ -68,7 +68,7 @@ fn add(
 
 // The root `tank` (1), the plain `lake` (2), for which a seed was had too, and the root `vault` (3). A salt serves
 // two draws.
-fn three(alloc: Global) -> Result<Host<MemShelf>, Fail> {
+pub(super) fn three(alloc: Global) -> Result<Host<MemShelf>, Fail> {
     let mut host = Host::new(alloc, 2)?;
     add(
         &mut host,

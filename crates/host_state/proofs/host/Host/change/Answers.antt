@@ -14,5 +14,5 @@ invariant_of-self g c =
     let before : Plain = c.self.inside.keys in
     let command : KeyCmd = commands.Change c.args.name.now c.args.opts.now c.args.load_first in
     let sound : Sound ciphers before = subst (λ (p : Plain). Sound ciphers p) c.keys.ensures c.states_are_sound.ensures in
-    still_host c.change.result before (stepped before command c.args.kit.now).state c.change.new.self c.self.inside.families.items c.self.inside.limit c.self.invariant
+    still_host c.change.result g.B.Shelf.tells before (stepped before command c.args.kit.now).state c.change.new.self c.self.inside.families.items c.self.inside.limit c.self.invariant
     (change_same before sound.tree.records c.args.name.now c.args.opts.now c.args.load_first c.args.kit.now) c.change.ensures.state

@@ -16,7 +16,7 @@ invariant_of-self g c =
     let before : Plain = c.self.inside.keys in
     let place : Option Location = None in
     let command : KeyCmd = commands.Load c.args.name.now c.args.check_only place in
-    still_host c.load.result before (stepped before command c.args.kit.now).state c.load.new.self c.self.inside.families.items c.self.inside.limit c.self.invariant
+    still_host c.load.result g.B.Shelf.tells before (stepped before command c.args.kit.now).state c.load.new.self c.self.inside.families.items c.self.inside.limit c.self.invariant
     (load_same before c.args.name.now c.args.check_only place (told ciphers before command c.args.kit.now)) (c.load.ensures.state place)
 
 pub returns-clause-reply : goal.returns-clause-reply

@@ -11,5 +11,5 @@ pub invariant_of-self : goal.invariant_of-self
 invariant_of-self g c =
     let before : Plain = c.self.inside.keys in
     let command : KeyCmd = commands.Mount c.args.name.now in
-    still_host c.mount.result before (key_step before command nothing_told).state c.mount.new.self c.self.inside.families.items c.self.inside.limit c.self.invariant
+    still_host c.mount.result g.B.Shelf.tells before (key_step before command nothing_told).state c.mount.new.self c.self.inside.families.items c.self.inside.limit c.self.invariant
     (mount_same before c.args.name.now nothing_told) c.mount.ensures.state

@@ -11,5 +11,5 @@ pub invariant_of-self : goal.invariant_of-self
 invariant_of-self g c =
     let before : Plain = c.self.inside.keys in
     let command : KeyCmd = commands.Unload c.args.name.now in
-    still_host_at before (key_step before command nothing_told).state c.unload.new.self c.self.inside.families.items c.self.inside.limit c.self.invariant
+    still_host_at g.B.Shelf.tells before (key_step before command nothing_told).state c.unload.new.self c.self.inside.families.items c.self.inside.limit c.self.invariant
     (unload_same before c.args.name.now nothing_told) c.unload.ensures.state

@@ -1,0 +1,14 @@
+use Rattle.file_dataset.specs.declared.reply.FileReply.TheVariants as replies
+use Rattle.file_dataset.specs.Calls.{block_key_of}
+use Rattle.file_dataset.specs.Steady.{called_cut}
+use Rattle.file_dataset.proofs.SteadyLemmas.{edit_called}
+use Rattle.host_state.proofs.FileLemmas.{edit_served}
+use Rattle.host_state.proofs.host.files.shorten.Goals as goal
+
+pub returns : goal.returns
+returns g c =
+    let edits = c.cut-answer.ensures.edits in
+    edit_served (λ _. replies.Done) c.args.key.now.hmac c.args.to c.args.head edits.calls edits.draws edits.put c.cut-answer.result c.args.family.now c.cut-answer.new.fam c.done.result
+    (called_cut (block_key_of c.args.key.now) c.args.key.now.hmac c.args.head c.args.file.now c.args.to c.args.family.now) edits.left c.cut-answer.ensures.before
+    (λ steady. edit_called _ _ c.args.key.now.hmac c.args.to c.args.head _ _ _ c.cut-answer.result c.args.family.now c.cut-answer.new.fam steady c.used.ensures.sizes edits c.cut-answer.ensures.before)
+    c.done.ensures
