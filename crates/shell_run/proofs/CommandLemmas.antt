@@ -1,5 +1,5 @@
 -- A command with what was taken for it is carried out as it is defined.
-use Rattle.std.proofs.Common.{◌≡◌, ℕ, Bool, ◌++◌, List, [], Option, Some, None, Result, Ok, Err, IfOk, IfSome, OnErr, OnOk, refl, ap, sym, ◌∙◌, subst}
+use Rattle.std.proofs.Common.{◌≡◌, ℕ, Bool, true, false, if◌then◌else◌, ◌++◌, List, [], Option, Some, None, Result, Ok, Err, IfOk, IfSome, OnErr, OnOk, refl, ap, sym, ◌∙◌, subst}
 use Rattle.std.specs.Option.{option_and_then, option_map}
 use Rattle.std.proofs.lemmas.List.{append-nil}
 use Rattle.dataset_tree.specs.declared.refusal.Refusal.{Refusal}
@@ -52,21 +52,32 @@ told_each_of p (Some files) None s P holds = tt
 told_each_of p (Some files) (Some left) None P holds = tt
 told_each_of p (Some files) (Some left) (Some script) P holds = holds files left script refl refl refl
 
-pub told_each : (p : HostState) (outer : Outer) (told : ToldScript) (P : World → Type 0)
-    → ((files : List (List ℕ × List ℕ)) (left : List ℕ) (script : Script) → outer.files ≡ Some files → outer.entropy ≡ Some left → script_told told ≡ Some script → P (world_of p files left script)) → IfSome (told_world p outer told) P
-told_each p outer told P holds = told_each_of p outer.files outer.entropy (script_told told) P holds
+-- a world is told where the host's shelves tell
+told_where : (tells : Bool) (world : Option World) (P : World → Type 0) → (tells ≡ true → IfSome world P) → IfSome (if tells then world else None) P
+told_where true world P holds = holds refl
+told_where false world P holds = tt
 
-pub told_of : (p : HostState) (outer : Outer) (told : ToldScript) (files : List (List ℕ × List ℕ)) (left : List ℕ) (script : Script) → outer.files ≡ Some files → outer.entropy ≡ Some left → script_told told ≡ Some script
+abbrev outer_world : HostState → Outer → ToldScript → Option World
+outer_world p outer told = option_and_then (λ (files : List (List ℕ × List ℕ)). option_and_then (λ (left : List ℕ). option_map (world_of p files left) (script_told told)) outer.entropy) outer.files
+
+pub told_each : (p : HostState) (outer : Outer) (told : ToldScript) (P : World → Type 0)
+    → ((files : List (List ℕ × List ℕ)) (left : List ℕ) (script : Script) → p.tells ≡ true → outer.files ≡ Some files → outer.entropy ≡ Some left → script_told told ≡ Some script → P (world_of p files left script))
+    → IfSome (told_world p outer told) P
+told_each p outer told P holds =
+    told_where p.tells (outer_world p outer told) P (λ tells. told_each_of p outer.files outer.entropy (script_told told) P (λ files left script f e s. holds files left script tells f e s))
+
+pub told_of : (p : HostState) (outer : Outer) (told : ToldScript) (files : List (List ℕ × List ℕ)) (left : List ℕ) (script : Script) → p.tells ≡ true → outer.files ≡ Some files → outer.entropy ≡ Some left → script_told told ≡ Some script
     → told_world p outer told ≡ Some (world_of p files left script)
-told_of p outer told files left script f e s =
-    ap (λ (o : Option (List (List ℕ × List ℕ))). option_and_then (λ (files : List (List ℕ × List ℕ)). option_and_then (λ (left : List ℕ). option_map (world_of p files left) (script_told told)) outer.entropy) o) f
+told_of p outer told files left script tells f e s =
+    ap (λ (b : Bool). let world : Option World = if b then outer_world p outer told else None in world) tells
+    ∙ ap (λ (o : Option (List (List ℕ × List ℕ))). option_and_then (λ (files : List (List ℕ × List ℕ)). option_and_then (λ (left : List ℕ). option_map (world_of p files left) (script_told told)) outer.entropy) o) f
     ∙ ap (λ (o : Option (List ℕ)). option_and_then (λ (left : List ℕ). option_map (world_of p files left) (script_told told)) o) e ∙ ap (λ (o : Option Script). option_map (world_of p files left) o) s
 
 -- the world that a line leaves, after what it took
-told_after : (n : ℕ) (p : HostState) (a d : Outer) (told : ToldScript) (files : List (List ℕ × List ℕ)) (left : List ℕ) (later : Script) (made : List Taking) → Takes (λ line. line ≡ n) made a d → a.files ≡ Some files → a.entropy ≡ Some left → script_told told ≡ Some later
+pub told_after : (n : ℕ) (p : HostState) (a d : Outer) (told : ToldScript) (files : List (List ℕ × List ℕ)) (left : List ℕ) (later : Script) (made : List Taking) → Takes (λ line. line ≡ n) made a d → p.tells ≡ true → a.files ≡ Some files → a.entropy ≡ Some left → script_told told ≡ Some later
     → told_world p d told ≡ Some (world_of p files (left_after (fills_of made) left) later)
-told_after n p a d told files left later made takes f e s =
-    told_of p d told files (left_after (fills_of made) left) later (takes.files ∙ f) (told_at a.entropy left (λ l. d.entropy ≡ Some (left_after (fills_of made) l)) e takes.entropy) s
+told_after n p a d told files left later made takes tells f e s =
+    told_of p d told files (left_after (fills_of made) left) later tells (takes.files ∙ f) (told_at a.entropy left (λ l. d.entropy ≡ Some (left_after (fills_of made) l)) e takes.entropy) s
 
 host_of : (p : HostState) (f : Option (List (List ℕ × List ℕ))) (e : Option (List ℕ)) (s : Option Script) (w : World)
     → option_and_then (λ (files : List (List ℕ × List ℕ)). option_and_then (λ (left : List ℕ). option_map (world_of p files left) s) e) f ≡ Some w → w.present ≡ p
@@ -75,8 +86,12 @@ host_of p (Some files) None s w told = absurd (cc)
 host_of p (Some files) (Some left) None w told = absurd (cc)
 host_of p (Some files) (Some left) (Some script) w told = let same : world_of p files left script ≡ w = cc in sym (ap (λ (v : World). v.present) same)
 
+host_where : (tells : Bool) (p : HostState) (outer : Outer) (script : ToldScript) (w : World) → (let world : Option World = if tells then outer_world p outer script else None in world) ≡ Some w → w.present ≡ p
+host_where true p outer script w told = host_of p outer.files outer.entropy (script_told script) w told
+host_where false p outer script w told = absurd (cc)
+
 pub host_told : (p : HostState) (outer : Outer) (script : ToldScript) (w : World) → told_world p outer script ≡ Some w → w.present ≡ p
-host_told p outer script w told = host_of p outer.files outer.entropy (script_told script) w told
+host_told p outer script w told = host_where p.tells p outer script w told
 
 pub on_told : (world : Option World) (P Q : World → Type 0) → ((w : World) → P w → Q w) → IfSome world P → IfSome world Q
 on_told None P Q follows holds = tt
@@ -118,19 +133,25 @@ pub executed_at_once : (n part : ℕ) (p : HostState) (command : KeyCmd) (outer 
     → ActsAs n part outer outer (λ made. WhereTold (told_world p outer script) made (λ entries w. Executes (settled (Err stop)) (commanded (spot_of n part entries) w command) (told_world p outer script) made))
 executed_at_once n part p command outer script (stops.Refused why) gives =
     acts_not n part outer (λ made. WhereTold (told_world p outer script) made (λ entries w. Executes (Ok (Err why)) (commanded (spot_of n part entries) w command) (told_world p outer script) made))
-    (λ entries agrees. told_each p outer script (λ w. Executes (Ok (Err why)) (commanded (spot_of n part entries) w command) (told_world p outer script) []) (λ files left here f e s.
+    (λ entries agrees. told_each p outer script (λ w. Executes (Ok (Err why)) (commanded (spot_of n part entries) w command) (told_world p outer script) []) (λ files left here tells f e s.
     let w : World = world_of p files left here in
     let done : commanded (spot_of n part entries) w command ≡ refused_at_once w why = ap (unless_refused (spot_of n part entries) w command) (refused_by p.keys command why (refusal_of p.keys command) gives) in
-    subst (λ (d : Outcome). Executes (Ok (Err why)) d (told_world p outer script) []) (sym done) (refl, told_of p outer script files left here f e s, refl)))
+    subst (λ (d : Outcome). Executes (Ok (Err why)) d (told_world p outer script) []) (sym done) (refl, told_of p outer script files left here tells f e s, refl)))
 executed_at_once n part p command outer script stops.NoMemory gives =
     acts_not n part outer (λ made. WhereTold (told_world p outer script) made (λ entries w. Executes (Err NoMemory) (commanded (spot_of n part entries) w command) (told_world p outer script) made))
-    (λ entries agrees. told_each p outer script (λ w. Executes (Err NoMemory) (commanded (spot_of n part entries) w command) (told_world p outer script) []) (λ files left here f e s. front_nil _))
+    (λ entries agrees. told_each p outer script (λ w. Executes (Err NoMemory) (commanded (spot_of n part entries) w command) (told_world p outer script) []) (λ files left here tells f e s. front_nil _))
 
 finish : (result : Result Shown Stop) (reply : Reply) (now : Option World) (old new state : HostState) (files : List (List ℕ × List ℕ)) (left : List ℕ) (later : Script) (made : List Taking) → Replies result reply
     → new ≡ host_after result old state → now ≡ Some (world_of new files left later) → Executes (settled result) (Does record { world = world_of state files left later; reply = reply; takings = made }) now made
 finish (Ok shown) reply now old new state files left later made replies after told = (replies, told ∙ ap (λ p. Some (world_of p files left later)) after, refl)
 finish (Err (stops.Refused why)) reply now old new state files left later made replies after told = (replies, told ∙ ap (λ p. Some (world_of p files left later)) after, refl)
 finish (Err stops.NoMemory) reply now old new state files left later made replies after told = front_all made made refl
+
+-- a command leaves what the shelves tell
+after_tells : (result : Result Shown Stop) (old new state : HostState) → state.tells ≡ old.tells → new ≡ host_after result old state → new.tells ≡ old.tells
+after_tells (Ok shown) old new state same after = ap (λ h. h.tells) after ∙ same
+after_tells (Err (stops.Refused why)) old new state same after = ap (λ h. h.tells) after ∙ same
+after_tells (Err stops.NoMemory) old new state same after = ap (λ h. h.tells) after
 
 -- where the world is told, so is what the kit was made of
 kit_at : (n part : ℕ) (wants : Wanted) (entries : List FoundEntry) (a : Outer) (sa sd : ToldScript) (made : List Taking) (result : Result LineKit Halt) (files : List (List ℕ × List ℕ)) (left : List ℕ) (script : Script)
@@ -157,7 +178,7 @@ executed n part p new command needs kit a d sa sd result known acts replies afte
   takes = acts.takes;
   said = (
     acts.said.0,
-    λ entries agrees. told_each p a sa (λ w. Executes (settled result) (commanded (spot_of n part entries) w command) (told_world new d sd) acts.made) (λ files left script f e s.
+    λ entries agrees. told_each p a sa (λ w. Executes (settled result) (commanded (spot_of n part entries) w command) (told_world new d sd) acts.made) (λ files left script tells f e s.
         let w : World = world_of p files left script in
         let spot : Spot = spot_of n part entries in
         let gives = some_of (script_told sd) (λ later. kit_of spot files left script (wants_of needs) ≡ Has kit later acts.made)
@@ -166,7 +187,7 @@ executed n part p new command needs kit a d sa sd result known acts replies afte
         let rest : List ℕ = left_after (fills_of acts.made) left in
         subst (λ (x : Outcome). Executes (settled result) x (told_world new d sd) acts.made) (sym done)
         (finish result (host_step p command kit).reply (told_world new d sd) p new (host_step p command kit).state files rest gives.0 acts.made replies after
-        (told_after n new a d sd files left gives.0 acts.made acts.takes f e gives.1))),
+        (told_after n new a d sd files left gives.0 acts.made acts.takes (after_tells result p new (host_step p command kit).state refl after ∙ tells) f e gives.1))),
   );
 }
 
@@ -187,7 +208,7 @@ executed_stopped n part p command needs halt a d sa sd known acts = record {
   takes = acts.takes;
   said = (
     acts.said.0,
-    λ entries agrees. told_each p a sa (λ w. Executes (Err halt) (commanded (spot_of n part entries) w command) (told_world p d sd) acts.made) (λ files left script f e s.
+    λ entries agrees. told_each p a sa (λ w. Executes (Err halt) (commanded (spot_of n part entries) w command) (told_world p d sd) acts.made) (λ files left script tells f e s.
         let w : World = world_of p files left script in
         subst (λ (x : Outcome). Executes (Err halt) x (told_world p d sd) acts.made) (sym (accepted_is p command needs (spot_of n part entries) files left script known))
         (halted halt w command (kit_of (spot_of n part entries) files left script (wants_of needs)) (script_told sd) acts.made
@@ -295,10 +316,10 @@ pub spelled_not : (n : ℕ) (p : HostState) (outer : Outer) (script : ToldScript
 spelled_not n p outer script (line_stops.Bad at) outcome before after bad =
     nothing_acts n outer (λ made. WhereTold (told_world p outer script) made (λ entries w. HasAnswer (Err (BadLine n at)) (answer_if n entries w outcome) (told_world p outer script) before after made))
     (λ entries agrees. told_each p outer script (λ w. HasAnswer (Err (BadLine n at)) (answer_if n entries w outcome) (told_world p outer script) before after [])
-    (λ files left here f e s. subst (λ (o : Result Line ℕ). HaltsIn (BadLine n at) (answer_if n entries (world_of p files left here) o) []) (sym bad) (refl, refl, refl)))
+    (λ files left here tells f e s. subst (λ (o : Result Line ℕ). HaltsIn (BadLine n at) (answer_if n entries (world_of p files left here) o) []) (sym bad) (refl, refl, refl)))
 spelled_not n p outer script line_stops.NoMemory outcome before after none =
     nothing_acts n outer (λ made. WhereTold (told_world p outer script) made (λ entries w. HasAnswer (Err NoMemory) (answer_if n entries w outcome) (told_world p outer script) before after made))
-    (λ entries agrees. told_each p outer script (λ w. HasAnswer (Err NoMemory) (answer_if n entries w outcome) (told_world p outer script) before after []) (λ files left here f e s. front_nil _))
+    (λ entries agrees. told_each p outer script (λ w. HasAnswer (Err NoMemory) (answer_if n entries w outcome) (told_world p outer script) before after []) (λ files left here tells f e s. front_nil _))
 
 -- ---- a call of the keystore that stops
 

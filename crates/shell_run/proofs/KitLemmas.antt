@@ -139,7 +139,7 @@ record IsWithin (n own low high : ℕ) (taking : Taking) : Type 0 where
   above : low ≤ rank taking.entry.what
   below : rank taking.entry.what < high
 
-abbrev entry_of : (n part : ℕ) → FoundKind → FoundEntry
+abbrev pub entry_of : (n part : ℕ) → FoundKind → FoundEntry
 entry_of n part what = record { line = n; part = part; what = what }
 
 all_of_part : (n part low high : ℕ) (made : List Taking) → AllByRecursion (IsWithin n part low high) made → AllByRecursion (λ taking. taking.entry.part ≡ part) made
@@ -221,7 +221,7 @@ seed_agrees : (n part : ℕ) (entries : List FoundEntry) (left : List ℕ) (fail
 seed_agrees n part entries left fails says enough =
     ap (λ b. taking_with (entry_of n part Seed) b) (sym (ap (λ b. b || is_short left) says ∙ enough))
 
-fill_agrees : (n part : ℕ) (entries : List FoundEntry) (left : List ℕ) (fails wanted : Bool) → (wanted ≡ true → fails || is_short left ≡ fails) → Agrees entries (fill_at (taking_with (entry_of n part Seed) fails) wanted)
+pub fill_agrees : (n part : ℕ) (entries : List FoundEntry) (left : List ℕ) (fails wanted : Bool) → (wanted ≡ true → fails || is_short left ≡ fails) → Agrees entries (fill_at (taking_with (entry_of n part Seed) fails) wanted)
     → (fill_at (taking_with (entry_of n part Seed) fails) wanted ≡ fill_at (seed_at (spot_of n part entries) left) wanted)
     × (seed_from (taking_with (entry_of n part Seed) fails) left wanted ≡ seed_from (seed_at (spot_of n part entries) left) left wanted)
 fill_agrees n part entries left fails false enough agrees = (refl, refl)

@@ -6,5 +6,6 @@ pub mod CommandLemmas
 pub mod FaultLemmas
 pub mod TaskLemmas
 pub mod PerformLemmas
+pub mod SpotLemmas
 pub mod RunLemmas
 pub mod EndingLemmas

@@ -10,6 +10,7 @@ use Rattle.encryption_roots.specs.declared.command.KeyCmd.TheVariants as command
 use Rattle.encryption_roots.specs.declared.kit.Fetched.{Fetched}
 use Rattle.encryption_roots.specs.declared.props.Location.{Location}
 use Rattle.encryption_roots.specs.declared.props.Location.TheVariants.{Prompt, File}
+use Rattle.file_dataset.specs.declared.command.FileCmd.{FileCmd}
 use Rattle.key_machine.specs.Plain.{Plain}
 use Rattle.key_machine.specs.Step.{refusal_of, wanted}
 use Rattle.key_machine.specs.Told.{Wanted}
@@ -20,14 +21,18 @@ use Rattle.shell_run.specs.declared.found.FoundEntry.{FoundEntry}
 use Rattle.shell_run.specs.declared.found.FoundKind.TheVariants.{OldKey, NewKey}
 use Rattle.shell_run.specs.declared.task.Report.{Report}
 use Rattle.shell_run.specs.Answers.{Acts, ActsAs, AreOfLine, HaltFaults, HaltsAt, HaltsIn, HasAnswer, IsSeedless, PerformsOne, Reads, WhereTold, answer_takings, outcome_takings, spot_of, supply_takings}
+use Rattle.shell_run.specs.declared.job.LineJob.TheVariants as jobs
+use Rattle.shell_run.specs.declared.task.Task.{Task}
+use Rattle.host_state.specs.FileLines.{file_step}
 use Rattle.host_state.specs.Hosts.{HostState}
 use Rattle.shell_run.specs.Outer.{Outer, Takes}
 use Rattle.shell_run.specs.Ran.{IsFront}
-use Rattle.shell_run.specs.Reports.{is_refusal, reported, closing}
-use Rattle.shell_run.specs.Script.{ToldScript, Given, Gives, Stops}
+use Rattle.shell_run.specs.Reports.{file_output, is_refusal, reported, closing}
+use Rattle.shell_run.specs.Script.{Script, ToldScript, Given, Gives, Stops}
 use Rattle.shell_run.specs.Takings.{Taking, has_entry, is_fill, fills_of}
-use Rattle.shell_run.specs.Tasks.{Asked, asked_of}
-use Rattle.shell_run.specs.Transcript.{World, world_of, told_world, Spot, taking_at, seed_at, fetch_at, fill_at, material_at, Supply, Has, Lacks, with_new, with_old, kit_of, Commanded, Outcome, Does, Halts, supplied, unless_refused, commanded, Answer, Performed, begun, with_done, unless_halted, performed, answer_of}
+use Rattle.shell_run.specs.JobAnswers.{IsJob}
+use Rattle.shell_run.specs.Jobs.{Job, job_of, on_clone, on_destroy, on_files, on_keys, on_snapshot}
+use Rattle.shell_run.specs.Transcript.{World, world_of, told_world, Spot, taking_at, seed_at, fetch_at, fill_at, material_at, Supply, Has, Lacks, with_new, with_old, kit_of, Commanded, Outcome, Does, Halts, supplied, unless_refused, commanded, Answer, Goes, Performed, begun, with_done, unless_halted, performed, filed, answer_to, answer_of}
 use Rattle.shell_run.proofs.CommandLemmas.{front_all, front_nil, host_told, nothing_acts, told_each, told_of}
 use Rattle.shell_run.proofs.KitLemmas.{told_at}
 use Rattle.shell_run.proofs.TakingLemmas.{all_both, all_first, all_second, all_weaker, order_both, outcomes_both, takes_both}
@@ -147,10 +152,10 @@ pub performed_none : (n : ℕ) (report : Report) (p : HostState) (a : Outer) (sa
 performed_none n report p a sa all before =
     nothing_acts n a (λ made. AllByRecursion (λ taking. taking.entry.part < 0) made × WhereTold (told_world p a sa) made (λ entries w. Underway n entries report w (told_world p a sa) all all 0 0 before before made)) (
       tt,
-      λ entries agrees. told_each p a sa (λ w. Underway n entries report w (told_world p a sa) all all 0 0 before before []) (λ files left script f e s. record {
+      λ entries agrees. told_each p a sa (λ w. Underway n entries report w (told_world p a sa) all all 0 0 before before []) (λ files left script tells f e s. record {
         done = begun (world_of p files left script);
         goes_on = refl;
-        world = told_of p a sa files left script f e s;
+        world = told_of p a sa files left script tells f e s;
         output = sym (append-nil before);
         takings = refl;
         tried = refl;
@@ -201,7 +206,7 @@ takes_next n count a b d SaidFirst SaidNext p q =
     (all_of_both (λ taking. taking.entry.line ≡ n) (λ taking. taking.entry.part < count) p.made p.takes.lines p.said.0)
     (all_of_both (λ taking. taking.entry.line ≡ n) (λ taking. taking.entry.part ≡ count) q.made q.takes.lines q.said.0) p.takes.order q.takes.order) p.takes q.takes
 
-on_told_with : (world : Option World) (P Q : World → Type 0) → ((w : World) → world ≡ Some w → P w → Q w) → IfSome world P → IfSome world Q
+pub on_told_with : (world : Option World) (P Q : World → Type 0) → ((w : World) → world ≡ Some w → P w → Q w) → IfSome world P → IfSome world Q
 on_told_with None P Q follows holds = tt
 on_told_with (Some w) P Q follows holds = follows w refl holds
 
@@ -259,14 +264,14 @@ performed_halt n report a b d first middle now all command rest count good befor
 -- ---- behind the last command
 
 end_by : (n : ℕ) (entries : List FoundEntry) (report : Report) (w : World) (q : HostState) (outer : Outer) (script : ToldScript) (all : List KeyCmd) (count good : ℕ) (before mid after : List ℕ) (made : List Taking) (result : Result (Unit {0}) Halt)
-    → Underway n entries report w (told_world q outer script) all [] count good before mid made → OnOk result (after ≡ mid ++ closing n q.keys report good count) → OnErr result (result ≡ Err NoMemory)
+    → Underway n entries report w (told_world q outer script) all [] count good before mid made → OnOk result (after ≡ mid ++ closing n q report good count) → OnErr result (result ≡ Err NoMemory)
     → HasAnswer result (performed n entries report (begun w) all) (told_world q outer script) before after made
 end_by n entries report w q outer script all count good before mid after made (Ok ok) under printed ended =
     let last : Performed = under.done in
     let present : last.turn.world.present ≡ q = host_told q outer script last.turn.world under.world in
-    let text : List ℕ = closing n last.turn.world.present.keys report last.well last.tried in
-    let same : closing n q.keys report good count ≡ text =
-    ap (λ p. closing n p.keys report good count) (sym present) ∙ ap (λ k. closing n last.turn.world.present.keys report k count) (sym under.well) ∙ ap (λ k. closing n last.turn.world.present.keys report last.well k) (sym under.tried) in
+    let text : List ℕ = closing n last.turn.world.present report last.well last.tried in
+    let same : closing n q report good count ≡ text =
+    ap (λ h. closing n h report good count) (sym present) ∙ ap (λ k. closing n last.turn.world.present report k count) (sym under.well) ∙ ap (λ k. closing n last.turn.world.present report last.well k) (sym under.tried) in
     subst (λ (answer : Answer). HasAnswer (Ok ok) answer (told_world q outer script) before after made) (sym under.goes_on)
     (under.world, printed ∙ ap (λ out. mid ++ out) same ∙ ap (λ out. out ++ text) under.output ∙ append_assoc before last.turn.output text, sym under.takings)
 end_by n entries report w q outer script all count good before mid after made (Err halt) under printed ended =
@@ -275,7 +280,7 @@ end_by n entries report w q outer script all count good before mid after made (E
     (subst (λ (answer : Answer). IsFront made (answer_takings answer)) (sym under.goes_on) (front_all made under.done.turn.takings (sym under.takings)))
 
 pub performed_end : (n : ℕ) (report : Report) (q : HostState) (a b : Outer) (script : ToldScript) (first : Option World) (all : List KeyCmd) (count good : ℕ) (before mid after : List ℕ) (result : Result (Unit {0}) Halt)
-    → PerformsTo n report a b first (told_world q b script) all [] count good before mid → OnOk result (after ≡ mid ++ closing n q.keys report good count) → OnErr result (result ≡ Err NoMemory)
+    → PerformsTo n report a b first (told_world q b script) all [] count good before mid → OnOk result (after ≡ mid ++ closing n q report good count) → OnErr result (result ≡ Err NoMemory)
     → Acts n a b (λ made. WhereTold first made (λ entries w. HasAnswer result (performed n entries report (begun w) all) (told_world q b script) before after made))
 performed_end n report q a b script first all count good before mid after result p printed ended = record {
   made = p.made;
@@ -287,28 +292,56 @@ performed_end n report q a b script first all count good before mid after result
 
 -- ---- a line
 
-pub carried : (n : ℕ) (p new : HostState) (a d : Outer) (sa sd : ToldScript) (line : Line) (report : Report) (all : List KeyCmd) (result : Result (Unit {0}) Halt) (before after : List ℕ) → all ≡ (asked_of p.keys line).commands → report ≡ (asked_of p.keys line).report
-    → Acts n a d (λ made. WhereTold (told_world p a sa) made (λ entries w. HasAnswer result (performed n entries report (begun w) all) (told_world new d sd) before after made))
+performed_as : (n : ℕ) (entries : List FoundEntry) (w : World) (job : Job) (task : Task) (all : List KeyCmd) → IsJob (jobs.Keys task) job → all ≡ task.commands.items → performed n entries task.report (begun w) all ≡ answer_to n entries w job
+performed_as n entries w (on_keys asked) task all is same =
+    ap (λ r. performed n entries r (begun w) all) is.0.report ∙ ap (λ cs. performed n entries asked.report (begun w) cs) (same ∙ is.0.commands)
+performed_as n entries w (on_files command) task all is same = absurd is
+performed_as n entries w (on_snapshot name) task all is same = absurd is
+performed_as n entries w (on_clone from name) task all is same = absurd is
+performed_as n entries w (on_destroy spot) task all is same = absurd is
+
+pub carried : (n : ℕ) (p new : HostState) (a d : Outer) (sa sd : ToldScript) (line : Line) (task : Task) (all : List KeyCmd) (result : Result (Unit {0}) Halt) (before after : List ℕ) → IsJob (jobs.Keys task) (job_of p.keys line) → all ≡ task.commands.items
+    → Acts n a d (λ made. WhereTold (told_world p a sa) made (λ entries w. HasAnswer result (performed n entries task.report (begun w) all) (told_world new d sd) before after made))
     → Acts n a d (λ made. WhereTold (told_world p a sa) made (λ entries w. HasAnswer result (answer_of n entries w line) (told_world new d sd) before after made))
-carried n p new a d sa sd line report all result before after commands reports acts = record {
+carried n p new a d sa sd line task all result before after is commands acts = record {
   made = acts.made;
   takes = acts.takes;
   said = λ entries agrees.
-      on_told_with (told_world p a sa) (λ w. HasAnswer result (performed n entries report (begun w) all) (told_world new d sd) before after acts.made) (λ w. HasAnswer result (answer_of n entries w line) (told_world new d sd) before after acts.made)
+      on_told_with (told_world p a sa) (λ w. HasAnswer result (performed n entries task.report (begun w) all) (told_world new d sd) before after acts.made) (λ w. HasAnswer result (answer_of n entries w line) (told_world new d sd) before after acts.made)
       (λ w told answered.
-      let asked_is : asked_of p.keys line ≡ asked_of w.present.keys line = ap (λ q. asked_of q.keys line) (sym (host_told p a sa w told)) in
-      let same : performed n entries report (begun w) all ≡ answer_of n entries w line =
-      ap (λ r. performed n entries r (begun w) all) reports ∙ ap (λ cs. performed n entries (asked_of p.keys line).report (begun w) cs) commands
-      ∙ ap (λ (asked : Asked). performed n entries asked.report (begun w) asked.commands) asked_is in
+      let same : performed n entries task.report (begun w) all ≡ answer_of n entries w line =
+      performed_as n entries w (job_of p.keys line) task all is commands ∙ ap (λ q. answer_to n entries w (job_of q.keys line)) (sym (host_told p a sa w told)) in
       subst (λ (answer : Answer). HasAnswer result answer (told_world new d sd) before after acts.made) same answered) (acts.said entries agrees);
 }
+
+-- a command about files
+
+filed_as : (n : ℕ) (p new : HostState) (files : List (List ℕ × List ℕ)) (left : List ℕ) (script : Script) (command : FileCmd) (result : Result (Unit {0}) Halt) (now : Option World) (before after : List ℕ)
+    → OnOk result (new ≡ (file_step p command).state) → OnOk result (after ≡ before ++ file_output n new.keys.tree.rows (file_step p command).reply) → OnErr result (result ≡ Err NoMemory)
+    → now ≡ Some (world_of new files left script) → HasAnswer result (Goes (filed n (world_of p files left script) (file_step p command))) now before after []
+filed_as n p new files left script command (Ok ok) now before after state text stops told = (
+  told ∙ ap (λ h. Some (world_of h files left script)) state,
+  text ∙ ap (λ h. before ++ file_output n h.keys.tree.rows (file_step p command).reply) state,
+  refl,
+)
+filed_as n p new files left script command (Err halt) now before after state text stops told =
+    let memory : halt ≡ NoMemory = cc in subst (λ (h : Halt). HaltsIn h (Goes (filed n (world_of p files left script) (file_step p command))) []) (sym memory) (front_nil _)
+
+pub served : (n : ℕ) (p new : HostState) (outer : Outer) (script : ToldScript) (line : Line) (command : FileCmd) (result : Result (Unit {0}) Halt) (before after : List ℕ) → IsJob (jobs.Files command) (job_of p.keys line)
+    → (p.tells ≡ true → OnOk result (new ≡ (file_step p command).state)) → (p.tells ≡ true → OnOk result (after ≡ before ++ file_output n new.keys.tree.rows (file_step p command).reply)) → new.tells ≡ p.tells → OnErr result (result ≡ Err NoMemory)
+    → Acts n outer outer (λ made. WhereTold (told_world p outer script) made (λ entries w. HasAnswer result (answer_of n entries w line) (told_world new outer script) before after made))
+served n p new outer script line command result before after is state text same stops =
+    nothing_acts n outer (λ made. WhereTold (told_world p outer script) made (λ entries w. HasAnswer result (answer_of n entries w line) (told_world new outer script) before after made))
+    (λ entries agrees. told_each p outer script (λ w. HasAnswer result (answer_of n entries w line) (told_world new outer script) before after []) (λ files left here tells f e s.
+    subst (λ (answer : Answer). HasAnswer result answer (told_world new outer script) before after []) (sym (ap (answer_to n entries (world_of p files left here)) is))
+    (filed_as n p new files left here command result (told_world new outer script) before after (state tells) (text tells) stops (told_of new outer script files left here (same ∙ tells) f e s))))
 
 -- no memory was found to see what the line asks for
 pub carried_not : (n : ℕ) (p : HostState) (outer : Outer) (script : ToldScript) (line : Line) (before after : List ℕ)
     → Acts n outer outer (λ made. WhereTold (told_world p outer script) made (λ entries w. HasAnswer (let ended : Result (Unit {0}) Halt = Err NoMemory in ended) (answer_of n entries w line) (told_world p outer script) before after made))
 carried_not n p outer script line before after =
     nothing_acts n outer (λ made. WhereTold (told_world p outer script) made (λ entries w. HasAnswer (let ended : Result (Unit {0}) Halt = Err NoMemory in ended) (answer_of n entries w line) (told_world p outer script) before after made))
-    (λ entries agrees. told_each p outer script (λ w. HaltsIn NoMemory (answer_of n entries w line) []) (λ files left here f e s. front_nil _))
+    (λ entries agrees. told_each p outer script (λ w. HaltsIn NoMemory (answer_of n entries w line) []) (λ files left here tells f e s. front_nil _))
 
 -- ---- a loop over the commands
 
@@ -344,7 +377,7 @@ performed_halt_at n report a b d first middle now all i command count good befor
     (several count (length all) (omega (arith, within, place)))
 
 pub performed_all : (n : ℕ) (report : Report) (q : HostState) (a b : Outer) (script : ToldScript) (first : Option World) (all : List KeyCmd) (i count good : ℕ) (before mid after : List ℕ) (result : Result (Unit {0}) Halt) → length all ≤ i
-    → PerformsTo n report a b first (told_world q b script) all (drop i all) count good before mid → OnOk result (after ≡ mid ++ closing n q.keys report good count) → OnErr result (result ≡ Err NoMemory)
+    → PerformsTo n report a b first (told_world q b script) all (drop i all) count good before mid → OnOk result (after ≡ mid ++ closing n q report good count) → OnErr result (result ≡ Err NoMemory)
     → Acts n a b (λ made. WhereTold first made (λ entries w. HasAnswer result (performed n entries report (begun w) all) (told_world q b script) before after made))
 performed_all n report q a b script first all i count good before mid after result past p printed ended =
     performed_end n report q a b script first all count good before mid after result
@@ -352,7 +385,7 @@ performed_all n report q a b script first all i count good before mid after resu
 
 -- the text behind all commands leaves the state as it is
 pub performed_closed : (n : ℕ) (report : Report) (q now : HostState) (a b : Outer) (script : ToldScript) (first : Option World) (all : List KeyCmd) (i count good : ℕ) (before mid after : List ℕ) (result : Result (Unit {0}) Halt) → length all ≤ i → now ≡ q
-    → PerformsTo n report a b first (told_world q b script) all (drop i all) count good before mid → OnOk result (after ≡ mid ++ closing n q.keys report good count) → OnErr result (result ≡ Err NoMemory)
+    → PerformsTo n report a b first (told_world q b script) all (drop i all) count good before mid → OnOk result (after ≡ mid ++ closing n q report good count) → OnErr result (result ≡ Err NoMemory)
     → Acts n a b (λ made. WhereTold first made (λ entries w. HasAnswer result (performed n entries report (begun w) all) (told_world now b script) before after made))
 performed_closed n report q now a b script first all i count good before mid after result past same p printed ended =
     subst (λ (s : HostState). Acts n a b (λ made. WhereTold first made (λ entries w. HasAnswer result (performed n entries report (begun w) all) (told_world s b script) before after made))) (sym same)
@@ -373,3 +406,7 @@ reads_ended a b x y (Ok ok) ended p = p
 reads_ended a b x y (Err halt) ended p =
     let memory : halt ≡ NoMemory = cc in
     subst (λ (h : Halt). Reads (Some h) a b x y) (sym memory) (record { later = p.later; told = λ goes told. absurd (let none : Some NoMemory ≡ None = goes in cc); faults = p.faults })
+
+-- nothing was read
+pub reads_none : (a : ToldScript) (x : ℕ) (result : Result (Unit {0}) Halt) → OnErr result (result ≡ Err NoMemory) → Reads (result_err result) a a x x
+reads_none a x result ended = reads_ended a a x x result ended (record { later = omega arith; told = λ goes told. told; faults = refl })

@@ -33,8 +33,8 @@ use Rattle.shell_run.specs.Script.{Script, ToldScript, Given, Gives, Stops, prom
 use Rattle.shell_run.specs.Takings.{Taking, has_entry, entries_of, fills_of}
 use Rattle.shell_run.specs.Texts.{bad_line}
 use Rattle.shell_run.specs.declared.task.Report.{Report}
-use Rattle.shell_run.specs.Tasks.{Asked, asked_of}
-use Rattle.shell_run.specs.Transcript.{World, world_of, told_world, Spot, taking_at, at_prompt, material_at, Supply, Has, Lacks, with_new, with_old, kit_of, Commanded, Outcome, Does, Halts, supplied, unless_refused, commanded, Run, Turn, Answer, Goes, Ends, Performed, begun, with_done, unless_halted, performed, preceded, replies_of, made_in, goes_on, checked, answer_of, answer_if, run_over, run_before, run_within, run_from, run_under, transcript}
+use Rattle.shell_run.specs.Jobs.{Job, job_of, on_clone, on_destroy, on_files, on_keys, on_snapshot}
+use Rattle.shell_run.specs.Transcript.{World, world_of, told_world, Spot, taking_at, at_prompt, material_at, Supply, Has, Lacks, with_new, with_old, kit_of, Commanded, Outcome, Does, Halts, supplied, unless_refused, commanded, Run, Turn, Answer, Goes, Ends, Performed, begun, with_done, unless_halted, performed, preceded, replies_of, made_in, goes_on, checked, answer_to, answer_of, answer_if, run_over, run_before, run_within, run_from, run_under, transcript}
 use Rattle.shell_run.specs.Words.{default_limit, limit_of}
 use Rattle.shell_run.proofs.CommandLemmas.{acts_told, front_nil, told_each, told_of}
 use Rattle.shell_run.proofs.KitLemmas.{told_at}
@@ -292,10 +292,15 @@ performed_within n k entries report before (command ∷ later) within =
     (commanded_within (spot_of n before.tried entries) before.turn.world command (refusal_of before.turn.world.present.keys command)))
     (λ done fits. performed_within n k entries report (with_done n report command before done) later fits)
 
+job_within : (n : ℕ) (entries : List FoundEntry) (w : World) (job : Job) → AnswerWithin (length w.script.ahead) (answer_to n entries w job)
+job_within n entries w (on_keys asked) = performed_within n (length w.script.ahead) entries asked.report (begun w) asked.commands (omega arith)
+job_within n entries w (on_files command) = omega arith
+job_within n entries w (on_snapshot name) = omega arith
+job_within n entries w (on_clone from name) = omega arith
+job_within n entries w (on_destroy spot) = omega arith
+
 line_within : (n : ℕ) (entries : List FoundEntry) (w : World) (line : Line) → AnswerWithin (length w.script.ahead) (answer_of n entries w line)
-line_within n entries w line =
-    let asked : Asked = asked_of w.present.keys line in
-    performed_within n (length w.script.ahead) entries asked.report (begun w) asked.commands (omega arith)
+line_within n entries w line = job_within n entries w (job_of w.present.keys line)
 
 answer_within : (n : ℕ) (entries : List FoundEntry) (w : World) (outcome : Result Line ℕ) → AnswerWithin (length w.script.ahead) (answer_if n entries w outcome)
 answer_within n entries w (Ok line) = line_within n entries w line
@@ -468,7 +473,7 @@ pub line_ran : (p : HostState) (a b : Outer) (before after : ToldScript) (line :
 line_ran p a b before after line r new t0 t1 is acts = record {
   made = acts.made;
   takes = takes_weaker (λ m. m ≡ before.next) (Here before.next) acts.made a b (λ m same. (same, omega (arith, same, is.few))) acts.takes;
-  said = λ found agrees. told_each p a before (λ w. LineRan r found w new t0 t1 acts.made) (λ files left script f e s.
+  said = λ found agrees. told_each p a before (λ w. LineRan r found w new t0 t1 acts.made) (λ files left script tells f e s.
       let n : ℕ = before.next in
       let lines = told_lines before script s in
       let there = taken_of line script.ahead (n + 1) after (told_at before.ahead script.ahead (λ ahead. IsSomeAnd after.ahead (λ later. ahead ≡ line ∷ later)) lines.0 is.taken) is.next in
@@ -476,7 +481,7 @@ line_ran p a b before after line r new t0 t1 is acts = record {
       let here : World = world_of p files left (with_lines (n + 1) later) in
       let whole : script ≡ with_lines n (line ∷ later) = lines.1 ∙ ap (with_lines n) there.1 in
       let replied : Replied r (answer_if n (entries_of n found) here (line_of line 0)) new t0 t1 acts.made =
-      told_at (told_world p a after) here (λ w. Replied r (answer_if n (entries_of n found) w (line_of line 0)) new t0 t1 acts.made) (told_of p a after files left (with_lines (n + 1) later) f e there.2)
+      told_at (told_world p a after) here (λ w. Replied r (answer_if n (entries_of n found) w (line_of line 0)) new t0 t1 acts.made) (told_of p a after files left (with_lines (n + 1) later) tells f e there.2)
       (acts.said (entries_of n found) (agrees_own n found acts.made acts.takes.lines agrees)) in
       line_ran_as r found (world_of p files left script) (answer_if n (entries_of n found) here (line_of line 0)) (length later) new t0 t1 acts.made
       (answer_within n (entries_of n found) here (line_of line 0))
@@ -517,7 +522,7 @@ pub line_not_taken : (e : Ending) (p : HostState) (a : Outer) (before after : To
 line_not_taken e p a before after new t none = record {
   made = [];
   takes = takes_none (Here before.next) a;
-  said = λ found agrees. told_each p a before (λ w. LineRan (Some e) found w new t t []) (λ files left script f ee s.
+  said = λ found agrees. told_each p a before (λ w. LineRan (Some e) found w new t t []) (λ files left script tells f ee s.
       let lines = told_lines before script s in
       subst (λ (x : Script). EndsSo e (run_from found (world_of p files left x)) [] t t) (sym lines.1)
       (no_line_ends e p files left before.next script.ahead after found t (none_taken e before after script.ahead lines.0 none)));
@@ -596,10 +601,10 @@ pub words_run : (words : List (List ℕ)) (limit : ℕ) (tells : Bool) (e : Endi
 words_run words limit tells e script t0 t1 a b says run = record {
   made = run.made;
   takes = run.takes;
-  said = λ found agrees. told_each (no_host tells default_limit) a script (λ w. EndsSo e (transcript words found w) run.made t0 t1) (λ files left here f en s.
+  said = λ found agrees. told_each (no_host tells default_limit) a script (λ w. EndsSo e (transcript words found w) run.made t0 t1) (λ files left here telling f en s.
       subst (λ (o : Option ℕ). EndsSo e (run_under o found (world_of (no_host tells default_limit) files left here)) run.made t0 t1) (sym says)
       (told_at (told_world (no_host tells limit) a script) (world_of (no_host tells limit) files left here) (λ w. EndsSo e (run_from found w) run.made t0 t1)
-      (told_of (no_host tells limit) a script files left here f en s) (run.said found agrees)));
+      (told_of (no_host tells limit) a script files left here telling f en s) (run.said found agrees)));
 }
 
 -- a run that doesn't begin

@@ -4,9 +4,11 @@ pub mod Script
 pub mod Takings
 pub mod Outer
 pub mod Tasks
+pub mod Jobs
 pub mod Reports
 pub mod Transcript
 pub mod Ran
 pub mod Answers
+pub mod JobAnswers
 pub mod Endings
 pub mod Progress

@@ -1,4 +1,4 @@
--- What a line asks for: commands, one after another, and how it reports of them.
+-- What a line asks of the keystore: commands, one after another, and how it reports of them.
 use Rattle.std.specs.Prelude.{ℕ, Bool, not, ◌||◌, List, [], ◌∷◌, map, if◌then◌else◌, Result, Ok, Err}
 use Rattle.std.specs.declared.option.Option.{Option}
 use Rattle.std.specs.declared.option.Option.TheVariants.{Some, None}
@@ -12,10 +12,8 @@ use Rattle.encryption_roots.specs.declared.command.KeyCmd.{KeyCmd}
 use Rattle.encryption_roots.specs.declared.command.KeyCmd.TheVariants as commands
 use Rattle.encryption_roots.specs.Owned.{roots_below}
 use Rattle.key_machine.specs.Plain.{Plain, has_key}
-use Rattle.shell_lines.specs.declared.line.Line.{Line}
-use Rattle.shell_lines.specs.declared.line.Line.TheVariants.{Silent, Create, LoadKey, UnloadKey, ChangeKey, InheritKey, LoadBelow, LoadAll, UnloadBelow, UnloadAll, Mount, Unmount, Get, List as ListSets, Counts as ShowCounts}
 use Rattle.shell_run.specs.declared.task.Report.{Report}
-use Rattle.shell_run.specs.declared.task.Report.TheVariants.{Replies, Roots, Sets, Counts, Refused}
+use Rattle.shell_run.specs.declared.task.Report.TheVariants.{Replies, Roots, Refused}
 use Rattle.shell_run.specs.declared.task.RootAction.{RootAction}
 use Rattle.shell_run.specs.declared.task.RootAction.TheVariants.{Load, Unload}
 
@@ -79,22 +77,3 @@ on_each p action roots = record { commands = flat_map (command_on p action) root
 
 abbrev pub on_roots : Plain → RootAction → Result (List ℕ) Refusal → Asked
 on_roots p action roots = asked_if (on_each p action) roots
-
--- ---- a line
-
-abbrev pub asked_of : Plain → Line → Asked
-asked_of p Silent = no_command Replies
-asked_of p (Create word opts) = on_name (λ name. commands.Create name opts) word
-asked_of p (LoadKey word check_only place) = on_name (λ name. commands.Load name check_only place) word
-asked_of p (LoadBelow word check_only) = on_roots p (Load check_only) (roots_named p (named word))
-asked_of p (LoadAll check_only) = on_roots p (Load check_only) (Ok (all_roots p))
-asked_of p (UnloadKey word) = on_name (λ name. commands.Unload name) word
-asked_of p (UnloadBelow word) = on_roots p Unload (roots_named p (named word))
-asked_of p UnloadAll = on_roots p Unload (Ok (all_roots p))
-asked_of p (ChangeKey word opts load_first) = on_name (λ name. commands.Change name opts load_first) word
-asked_of p (InheritKey word load_first) = on_name (λ name. commands.Inherit name load_first) word
-asked_of p (Mount word) = on_name (λ name. commands.Mount name) word
-asked_of p (Unmount word) = on_name (λ name. commands.Unmount name) word
-asked_of p (Get prop word) = on_name (λ name. commands.Get name prop) word
-asked_of p ListSets = no_command Sets
-asked_of p ShowCounts = no_command Counts

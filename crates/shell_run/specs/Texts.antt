@@ -18,6 +18,7 @@ use Rattle.key_machine.specs.Counts.{Counted, counts}
 use Rattle.key_machine.specs.Plain.{Plain, is_root, has_key}
 use Rattle.key_machine.specs.Get.{property_text, status_text}
 use Rattle.dataset_tree.specs.Refusal.{number_of, name_of}
+use Rattle.dataset_tree.specs.SnapName.{at_sign}
 use Rattle.dataset_tree.specs.Tree.{row_of}
 
 -- a line of output that answers line n of the script
@@ -107,6 +108,10 @@ kind_text p id Crypt =
 -- the row of `list` for a dataset
 abbrev pub set_line : ℕ → Plain → Row → List ℕ
 set_line n p row = reply_line n (codes "set " ++ row.name ++ kind_text p row.id row.kind)
+
+-- the row of `list` for a snapshot of a dataset
+abbrev pub snap_line : ℕ → (set part : List ℕ) → List ℕ
+snap_line n set part = reply_line n (codes "snap " ++ set ++ at_sign ∷ part)
 
 -- how many use each loaded wrapping key and each opened master key, and how many a mapping, with its generation
 abbrev pub count_line : ℕ → (kind : List ℕ) → List Row → ℕ × ℕ → List ℕ

@@ -5,6 +5,7 @@ use Rattle.std.specs.declared.option.Option.TheVariants.{Some, None}
 use Rattle.std.specs.Option.{option_and_then, option_map}
 use Rattle.std.specs.List.{flat_map}
 use Rattle.dataset_tree.specs.declared.refusal.Refusal.{Refusal}
+use Rattle.dataset_tree.specs.declared.snap_name.SnapName.{SnapName}
 use Rattle.edge_io.specs.Entropy.{is_short}
 use Rattle.edge_io.specs.KeyFiles.{fetched}
 use Rattle.encryption_roots.specs.declared.props.Location.{Location}
@@ -21,15 +22,18 @@ use Rattle.key_machine.specs.Told.{Wanted}
 use Rattle.shell_lines.specs.declared.line.Line.{Line}
 use Rattle.shell_lines.specs.Grammar.{line_of}
 use Rattle.shell_run.specs.declared.found.FoundEntry.{FoundEntry}
+use Rattle.shell_run.specs.declared.job.SpotName.{SpotName}
 use Rattle.shell_run.specs.declared.task.Report.{Report}
 use Rattle.shell_run.specs.declared.found.FoundKind.{FoundKind}
 use Rattle.shell_run.specs.declared.found.FoundKind.TheVariants.{OldKey, NewKey, Seed}
-use Rattle.host_state.specs.Hosts.{HostState, host_step, no_host}
+use Rattle.host_state.specs.FileLines.{FileStepped, file_step}
+use Rattle.host_state.specs.Hosts.{HostState, HostStepped, host_step, no_host}
+use Rattle.host_state.specs.SpotLines.{clone_step, destroy_snap_step, destroy_step, refused_host, snapshot_step}
 use Rattle.shell_run.specs.Outer.{Outer, left_after}
 use Rattle.shell_run.specs.Script.{Script, ToldScript, Given, Gives, Stops, past_line, prompted, script_of, script_told, within_limits}
 use Rattle.shell_run.specs.Takings.{Taking, entries_of, has_entry, fills_of}
-use Rattle.shell_run.specs.Tasks.{Asked, asked_of}
-use Rattle.shell_run.specs.Reports.{is_refusal, reported, closing}
+use Rattle.shell_run.specs.Jobs.{Job, on_clone, on_destroy, on_files, on_keys, on_snapshot, job_of}
+use Rattle.shell_run.specs.Reports.{is_refusal, reply_output, reported, closing, file_output}
 use Rattle.shell_run.specs.Texts.{bad_line, usage_line}
 use Rattle.shell_run.specs.Words.{default_limit, limit_of}
 
@@ -46,11 +50,13 @@ abbrev pub world_of : HostState → List (List ℕ × List ℕ) → List ℕ →
 world_of present files entropy script =
     record { present = present; files = files; entropy = entropy; script = script }
 
--- the world of this host, where key files, entropy and script are told
+-- the world of this host, where its shelves, key files, entropy and script are told
 abbrev pub told_world : HostState → Outer → ToldScript → Option World
 told_world present outer script =
+    if present.tells then
     option_and_then (λ (files : List (List ℕ × List ℕ)). option_and_then (λ (left : List ℕ).
     option_map (world_of present files left) (script_told script)) outer.entropy) outer.files
+    else None
 
 -- ---- what a command takes
 
@@ -202,7 +208,7 @@ with_done n report command before done = record {
 -- behind all commands
 abbrev pub closed : ℕ → Report → Performed → Turn
 closed n report done =
-    record done.turn { output = done.turn.output ++ closing n done.turn.world.present.keys report done.well done.tried }
+    record done.turn { output = done.turn.output ++ closing n done.turn.world.present report done.well done.tried }
 
 -- where a command halts, what those before it did stays done
 abbrev pub unless_halted : Performed → Outcome → (Commanded → Answer) → Answer
@@ -220,12 +226,59 @@ performed n entries report before (command ∷ later) =
     }) before.turn.world command)
     (λ done. performed n entries report (with_done n report command before done) later)
 
-abbrev pub answer_to : ℕ → List FoundEntry → World → Asked → Answer
-answer_to n entries w asked = performed n entries asked.report (begun w) asked.commands
+-- A command about files takes nothing: it is the host's step alone.
+abbrev pub filed : ℕ → World → FileStepped → Turn
+filed n w step = record {
+  world = record w { present = step.state };
+  output = file_output n step.state.keys.tree.rows step.reply;
+  takings = [];
+}
+
+-- a host's step that takes nothing, of which the reply is printed
+abbrev pub stepped_turn : ℕ → World → HostStepped → Turn
+stepped_turn n w step = record {
+  world = record w { present = step.state };
+  output = reply_output n step.state.keys step.reply;
+  takings = [];
+}
+
+-- a snapshot of this name, or why it is the name of none
+abbrev pub named_snapshot : HostState → Result SnapName Refusal → SeedGot → HostStepped
+named_snapshot h (Ok name) seed = snapshot_step h name.set name.snap seed
+named_snapshot h (Err why) seed = refused_host h why
+
+-- A snapshot takes a seed, whatever refuses it.
+abbrev pub snapshot_turn : ℕ → World → Taking → Result SnapName Refusal → Turn
+snapshot_turn n w taking name =
+    let step = named_snapshot w.present name (seed_from taking w.entropy true) in
+    record {
+      world = record w { present = step.state; entropy = left_after (fills_of (taking ∷ [])) w.entropy };
+      output = reply_output n step.state.keys step.reply;
+      takings = taking ∷ [];
+    }
+
+abbrev pub destroyed_at : HostState → (set : List ℕ) → Option (List ℕ) → HostStepped
+destroyed_at h set None = destroy_step h set
+destroyed_at h set (Some part) = destroy_snap_step h set part
+
+-- a dataset that goes, or a snapshot
+abbrev pub destroyed : HostState → SpotName → HostStepped
+destroyed h spot = destroyed_at h spot.set spot.snap
+
+-- the only part of a line of one command
+abbrev pub only_part : ℕ → List FoundEntry → Spot
+only_part n entries = record { line = n; part = 0; entries = entries }
+
+abbrev pub answer_to : ℕ → List FoundEntry → World → Job → Answer
+answer_to n entries w (on_keys asked) = performed n entries asked.report (begun w) asked.commands
+answer_to n entries w (on_files command) = Goes (filed n w (file_step w.present command))
+answer_to n entries w (on_snapshot name) = Goes (snapshot_turn n w (seed_at (only_part n entries) w.entropy) name)
+answer_to n entries w (on_clone from name) = Goes (stepped_turn n w (clone_step w.present from.set from.snap name))
+answer_to n entries w (on_destroy spot) = Goes (stepped_turn n w (destroyed w.present spot))
 
 -- line n, taken from the world's script, where its own failed takings are these
 abbrev pub answer_of : ℕ → List FoundEntry → World → Line → Answer
-answer_of n entries w line = answer_to n entries w (asked_of w.present.keys line)
+answer_of n entries w line = answer_to n entries w (job_of w.present.keys line)
 
 -- the bytes spell a line of the language
 abbrev pub checked : ℕ → List ℕ → Result Line ℕ

@@ -1,22 +1,29 @@
 // What a line of a script does, and what it prints.
-ghost use Rattle.std.specs.Prelude.{◌≡◌, ◌≤◌, ◌++◌, IfOk, OnErr, OnOk, length};
+ghost use Rattle.std.specs.Prelude.{◌≡◌, ◌≤◌, ◌++◌, Err, IfOk, OnErr, OnOk, length, true};
 ghost use Rattle.std.specs.List.{flat_map};
 ghost use Rattle.std.specs.Result.{result_err};
 ghost use Rattle.shell_lines.specs.Grammar.{line_of};
 ghost use Rattle.shell_lines.specs.Sized.{HasRecordSize};
-ghost use Rattle.shell_run.specs.Answers.{Acts, ActsAs, AreOfLine, HasAnswer, IsOfLine, IsTask, PerformsOne, Reads, WhereTold, shown_output, shown_report, spot_of, unspelled, well_count};
-ghost use Rattle.shell_run.specs.Reports.{closing, name_in};
-ghost use Rattle.shell_run.specs.Tasks.{asked_of};
-ghost use Rattle.shell_run.specs.Texts.{counts_lines, ok_line, set_line};
+ghost use Rattle.shell_run.specs.Answers.{Acts, ActsAs, AreOfLine, HasAnswer, IsOfLine, PerformsOne, Reads, WhereTold, shown_output, shown_report, spot_of, unspelled, well_count};
+ghost use Rattle.shell_run.specs.Reports.{closing, file_output, listed, name_in};
+ghost use Rattle.host_state.specs.FileLines.{file_step};
+ghost use Rattle.shell_run.specs.JobAnswers.{IsJob};
+ghost use Rattle.shell_run.specs.Jobs.{job_of};
+ghost use Rattle.shell_run.specs.Texts.{counts_lines, ok_line};
 ghost use Rattle.shell_run.specs.Transcript.{answer_if, answer_of, begun, commanded, performed, told_world};
 
 use crate::command::{Shown, execute};
 use crate::ending::Halt;
+use crate::file_reply::push_file_reply;
+use crate::job::{LineJob, job_of};
+use crate::listing::push_sets;
 use crate::outside::Outside;
-use crate::reply::{push_counts, push_error, push_key, push_ok, push_sets, push_text, push_total};
-use crate::task::{MAX_PARTS, Report, Task, task_of};
+use crate::reply::{push_counts, push_error, push_key, push_ok, push_text, push_total};
+use crate::spot_line::{destroy, make_clone, take_snapshot};
+use crate::task::{MAX_PARTS, Report};
 use dataset_tree::{NoMemory, Refusal, SetName};
 use encryption_roots::KeyCmd;
+use file_dataset::FileCmd;
 use host_state::Host;
 use key_store::KeyState;
 use shelf_store::Shelf;
@@ -77,27 +84,48 @@ fn carry_out<B: Shelf, W: Outside>(
         (W.faults outside.old) (W.faults outside.new) }
     ensures holds { W.holds outside.new ≡ W.holds outside.old }
 {
-    let task = match task_for(alloc, host, line) {
-        Ok(task) => task,
-        Err(_) => return Err(Halt::NoMemory),
-    };
-    perform(
-        alloc,
-        host,
-        outside,
-        number,
-        &task.report,
-        task.commands.as_slice(),
-        output,
-    )
+    match job_for(alloc, host, line) {
+        Ok(LineJob::Keys(task)) => perform(
+            alloc,
+            host,
+            outside,
+            number,
+            &task.report,
+            task.commands.as_slice(),
+            output,
+        ),
+        Ok(LineJob::Files(command)) => serve(alloc, host, number, &command, output),
+        Ok(LineJob::Snapshot(name)) => take_snapshot(host, outside, number, name, output),
+        Ok(LineJob::Clone { from, name }) => make_clone(host, number, &from, &name, output),
+        Ok(LineJob::Destroy(spot)) => destroy(host, number, spot, output),
+        Err(_) => Err(Halt::NoMemory),
+    }
 }
 
 /// What a line asks for.
-fn task_for<B: Shelf>(alloc: Global, host: &Host<B>, line: &Line) -> Result<Task, NoMemory>
-    ensures asked { IfOk result (λ task. IsTask task (asked_of host.now.keys line.now)) }
-    ensures few { IfOk result (λ task. length task.commands.items ≤ MAX_PARTS) }
+fn job_for<B: Shelf>(alloc: Global, host: &Host<B>, line: &Line) -> Result<LineJob, NoMemory>
+    ensures { IfOk result (λ job. IsJob job (job_of host.now.keys line.now)) }
 {
-    task_of(alloc, host.keys(), line)
+    job_of(alloc, host.keys(), line)
+}
+
+/// Carries out a command about files, and adds what it prints.
+fn serve<B: Shelf>(
+    alloc: Global,
+    host: &mut Host<B>,
+    number: u32,
+    command: &FileCmd,
+    output: &mut Vec<u8>,
+) -> Result<(), Halt>
+    ensures state { host.old.tells ≡ true → OnOk result (host.new ≡ (file_step host.old command.now).state) }
+    ensures text { host.old.tells ≡ true → OnOk result (output.new.items ≡ output.old.items
+        ++ file_output number host.new.keys.tree.rows (file_step host.old command.now).reply) }
+    ensures tells { host.new.tells ≡ host.old.tells }
+    ensures stops { OnErr result (result ≡ Err Halt.NoMemory) }
+{
+    let reply = host.file(command)?;
+    push_file_reply(output, number, host.keys().tree(), &reply)?;
+    Ok(())
 }
 
 /// Carries out commands one after another, each as a part of its own, and adds the report of them.
@@ -221,14 +249,14 @@ fn push_closing<B: Shelf>(
     tried: u64,
 ) -> Result<(), Halt>
     ensures text { OnOk result (output.new.items ≡ output.old.items
-        ++ closing number host.old.keys report.now well tried) }
+        ++ closing number host.old report.now well tried) }
     ensures stops { OnErr result (result ≡ Err Halt.NoMemory) }
     ensures same { host.new ≡ host.old }
 {
     match report {
         Report::Replies => {}
         Report::Roots => push_total(output, number, well, tried)?,
-        Report::Sets => push_list(output, number, host.keys())?,
+        Report::Sets => push_list(output, number, host)?,
         Report::Counts => push_users(output, number, host)?,
         Report::Refused(why) => push_error(output, number, host.keys().tree(), why)?,
     }
@@ -250,12 +278,12 @@ fn push_users<B: Shelf>(
     push_ok(output, number)
 }
 
-/// Adds the rows of all datasets, and that the line was carried out.
-fn push_list(output: &mut Vec<u8>, number: u32, keys: &KeyState) -> Result<(), NoMemory>
+/// Adds the rows of all datasets and their snapshots, and that the line was carried out.
+fn push_list<B: Shelf>(output: &mut Vec<u8>, number: u32, host: &Host<B>) -> Result<(), NoMemory>
     ensures text { OnOk result (output.new.items ≡ output.old.items
-        ++ (flat_map (set_line number keys.now) keys.now.tree.rows ++ ok_line number)) }
+        ++ (flat_map (listed number host.now) host.now.keys.tree.rows ++ ok_line number)) }
 {
-    push_sets(output, number, keys)?;
+    push_sets(output, number, host, host.keys().tree().rows())?;
     push_ok(output, number)
 }
 

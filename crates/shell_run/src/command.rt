@@ -200,7 +200,7 @@ fn fetch_if<W: Outside>(
     }
 }
 
-fn taking_of(line: u32, part: u32, what: FoundKind) -> FoundEntry
+pub(crate) fn taking_of(line: u32, part: u32, what: FoundKind) -> FoundEntry
     ensures { result ≡ record { line = line; part = part; what = what } }
 {
     FoundEntry { line, part, what }

@@ -4,12 +4,16 @@
 mod answer;
 mod command;
 mod ending;
+mod file_reply;
 mod found;
+mod job;
 mod laws;
+mod listing;
 mod outside;
 mod reply;
 mod run;
 mod script;
+mod spot_line;
 mod task;
 mod words;
 

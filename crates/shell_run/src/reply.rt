@@ -13,7 +13,7 @@ use itoa::Buffer;
 use key_store::{Counts, KeyState};
 
 /// Adds a number in decimal digits.
-fn push_number(text: &mut Vec<u8>, number: u64) -> Result<(), NoMemory>
+pub(crate) fn push_number(text: &mut Vec<u8>, number: u64) -> Result<(), NoMemory>
     ensures { OnOk result (text.new.items ≡ text.old.items ++ decimal number) }
 {
     let mut buffer = Buffer::new();
@@ -49,7 +49,12 @@ pub(crate) fn push_text(text: &mut Vec<u8>, line: u32, shown: &[u8]) -> Result<(
 }
 
 /// Adds the row of a dataset.
-fn push_set(text: &mut Vec<u8>, line: u32, keys: &KeyState, row: &Row) -> Result<(), NoMemory>
+pub(crate) fn push_set(
+    text: &mut Vec<u8>,
+    line: u32,
+    keys: &KeyState,
+    row: &Row,
+) -> Result<(), NoMemory>
     ensures { OnOk result (text.new.items ≡ text.old.items ++ set_line line keys.now row.now) }
 {
     push_number(text, line as u64)?;
@@ -91,16 +96,6 @@ fn status_text(is_available: bool) -> &'static [u8]
     } else {
         b"unavailable"
     }
-}
-
-/// Adds the rows of all datasets.
-pub(crate) fn push_sets(text: &mut Vec<u8>, line: u32, keys: &KeyState) -> Result<(), NoMemory>
-    ensures { OnOk result (text.new.items ≡ text.old.items ++ flat_map (set_line line keys.now) keys.now.tree.rows) }
-{
-    for row in keys.tree().rows() {
-        push_set(text, line, keys, row)?;
-    }
-    Ok(())
 }
 
 /// Adds how many use each loaded wrapping key, each opened master key, and each mapping.

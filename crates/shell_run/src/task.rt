@@ -1,16 +1,16 @@
-// What a line asks for: commands, and how it reports of them.
+// What a line asks of the keystore: commands, and how it reports of them.
 ghost use Rattle.std.specs.Prelude.{◌≡◌, ◌<◌, ◌≤◌, ◌++◌, IfErr, IfOk, Ok, OnOk, length};
 ghost use Rattle.std.specs.List.{AllPairs, flat_map};
 ghost use Rattle.dataset_tree.specs.Refusal.{Gives};
 ghost use Rattle.dataset_tree.specs.SetName.{named};
 ghost use Rattle.encryption_roots.specs.declared.command.KeyCmd.TheVariants as commands;
 ghost use Rattle.shell_run.specs.Answers.{GivesTask, IsTask, StopsBy};
-ghost use Rattle.shell_run.specs.Tasks.{all_roots, asked_of, command_named, command_on, is_tried, no_command, on_each, on_roots, one_command, root_command, roots_named};
+ghost use Rattle.shell_run.specs.Tasks.{all_roots, command_named, command_on, is_tried, no_command, on_each, on_roots, one_command, root_command, roots_named};
 
 use dataset_tree::{NoMemory, Refusal, Row, SetName, Stop};
 use encryption_roots::{KeyCmd, Location, Options, Prop, roots_below};
 use key_store::{KeyState, states_are_sound};
-use shell_lines::{Line, Word};
+use shell_lines::Word;
 use std::alloc::{AllocError, Global};
 
 /// The most commands of a line, since each is on a root of its own: there are as many ids.
@@ -46,47 +46,7 @@ pub(crate) struct Task {
     pub(crate) report: Report,
 }
 
-/// What a line asks for.
-pub(crate) fn task_of(alloc: Global, keys: &KeyState, line: &Line) -> Result<Task, NoMemory>
-    ensures asked { IfOk result (λ task. IsTask task (asked_of keys.now line.now)) }
-    ensures few { IfOk result (λ task. length task.commands.items ≤ MAX_PARTS) }
-{
-    match line {
-        Line::Silent => no_command(alloc, Report::Replies),
-        Line::List => no_command(alloc, Report::Sets),
-        Line::Counts => no_command(alloc, Report::Counts),
-        Line::Create { name, opts } => one_if(alloc, create_command(alloc, name, opts)),
-        Line::LoadKey {
-            name,
-            check_only,
-            place,
-        } => one_if(alloc, load_command(alloc, name, *check_only, place)),
-        Line::LoadBelow { name, check_only } => {
-            let check_only = *check_only;
-            on_named(alloc, keys, RootAction::Load { check_only }, name)
-        }
-        Line::LoadAll { check_only } => {
-            let check_only = *check_only;
-            on_all(alloc, keys, RootAction::Load { check_only })
-        }
-        Line::UnloadKey { name } => one_if(alloc, unload_command(alloc, name)),
-        Line::UnloadBelow { name } => on_named(alloc, keys, RootAction::Unload, name),
-        Line::UnloadAll => on_all(alloc, keys, RootAction::Unload),
-        Line::ChangeKey {
-            name,
-            opts,
-            load_first,
-        } => one_if(alloc, change_command(alloc, name, opts, *load_first)),
-        Line::InheritKey { name, load_first } => {
-            one_if(alloc, inherit_command(alloc, name, *load_first))
-        }
-        Line::Mount { name } => one_if(alloc, mount_command(alloc, name)),
-        Line::Unmount { name } => one_if(alloc, unmount_command(alloc, name)),
-        Line::Get { prop, name } => one_if(alloc, get_command(alloc, *prop, name)),
-    }
-}
-
-fn no_command(alloc: Global, report: Report) -> Result<Task, NoMemory>
+pub(crate) fn no_command(alloc: Global, report: Report) -> Result<Task, NoMemory>
     ensures asked { IfOk result (λ task. IsTask task (no_command report)) }
     ensures few { IfOk result (λ task. length task.commands.items ≤ MAX_PARTS) }
 {
@@ -95,7 +55,7 @@ fn no_command(alloc: Global, report: Report) -> Result<Task, NoMemory>
 }
 
 /// One command, or why there is none.
-fn one_if(alloc: Global, command: Result<KeyCmd, Stop>) -> Result<Task, NoMemory>
+pub(crate) fn one_if(alloc: Global, command: Result<KeyCmd, Stop>) -> Result<Task, NoMemory>
     ensures asked { GivesTask one_command result command }
     ensures few { IfOk result (λ task. length task.commands.items ≤ MAX_PARTS) }
 {
@@ -121,7 +81,7 @@ fn one_command(alloc: Global, command: KeyCmd) -> Result<Task, NoMemory>
 // ---- the roots of a line
 
 /// A command on each root at or below the dataset that a word names, where it is tried, or why there is none.
-fn on_named(
+pub(crate) fn on_named(
     alloc: Global,
     keys: &KeyState,
     action: RootAction,
@@ -140,7 +100,7 @@ fn on_named(
 }
 
 /// A command on each root, where it is tried.
-fn on_all(alloc: Global, keys: &KeyState, action: RootAction) -> Result<Task, NoMemory>
+pub(crate) fn on_all(alloc: Global, keys: &KeyState, action: RootAction) -> Result<Task, NoMemory>
     ensures asked { IfOk result (λ task. IsTask task (on_roots keys.now action (Ok (all_roots keys.now)))) }
     ensures few { IfOk result (λ task. length task.commands.items ≤ MAX_PARTS) }
 {
@@ -263,7 +223,7 @@ fn root_command(action: RootAction, row: &Row) -> Result<KeyCmd, NoMemory>
 
 // ---- one command
 
-fn create_command(alloc: Global, name: &Word, opts: &Options) -> Result<KeyCmd, Stop>
+pub(crate) fn create_command(alloc: Global, name: &Word, opts: &Options) -> Result<KeyCmd, Stop>
     ensures { Gives result (command_named (λ name. commands.Create name opts.now) (named name.now)) }
 {
     let name = SetName::parse(alloc, name.as_bytes())?;
@@ -271,7 +231,7 @@ fn create_command(alloc: Global, name: &Word, opts: &Options) -> Result<KeyCmd, 
     Ok(KeyCmd::Create { name, opts })
 }
 
-fn load_command(
+pub(crate) fn load_command(
     alloc: Global,
     name: &Word,
     check_only: bool,
@@ -298,14 +258,14 @@ fn copy_place(place: &Option<Location>) -> Result<Option<Location>, NoMemory>
     }
 }
 
-fn unload_command(alloc: Global, name: &Word) -> Result<KeyCmd, Stop>
+pub(crate) fn unload_command(alloc: Global, name: &Word) -> Result<KeyCmd, Stop>
     ensures { Gives result (command_named (λ name. commands.Unload name) (named name.now)) }
 {
     let name = SetName::parse(alloc, name.as_bytes())?;
     Ok(KeyCmd::Unload { name })
 }
 
-fn change_command(
+pub(crate) fn change_command(
     alloc: Global,
     name: &Word,
     opts: &Options,
@@ -322,28 +282,28 @@ fn change_command(
     })
 }
 
-fn inherit_command(alloc: Global, name: &Word, load_first: bool) -> Result<KeyCmd, Stop>
+pub(crate) fn inherit_command(alloc: Global, name: &Word, load_first: bool) -> Result<KeyCmd, Stop>
     ensures { Gives result (command_named (λ name. commands.Inherit name load_first) (named name.now)) }
 {
     let name = SetName::parse(alloc, name.as_bytes())?;
     Ok(KeyCmd::Inherit { name, load_first })
 }
 
-fn mount_command(alloc: Global, name: &Word) -> Result<KeyCmd, Stop>
+pub(crate) fn mount_command(alloc: Global, name: &Word) -> Result<KeyCmd, Stop>
     ensures { Gives result (command_named (λ name. commands.Mount name) (named name.now)) }
 {
     let name = SetName::parse(alloc, name.as_bytes())?;
     Ok(KeyCmd::Mount { name })
 }
 
-fn unmount_command(alloc: Global, name: &Word) -> Result<KeyCmd, Stop>
+pub(crate) fn unmount_command(alloc: Global, name: &Word) -> Result<KeyCmd, Stop>
     ensures { Gives result (command_named (λ name. commands.Unmount name) (named name.now)) }
 {
     let name = SetName::parse(alloc, name.as_bytes())?;
     Ok(KeyCmd::Unmount { name })
 }
 
-fn get_command(alloc: Global, prop: Prop, name: &Word) -> Result<KeyCmd, Stop>
+pub(crate) fn get_command(alloc: Global, prop: Prop, name: &Word) -> Result<KeyCmd, Stop>
     ensures { Gives result (command_named (λ name. commands.Get name prop) (named name.now)) }
 {
     let name = SetName::parse(alloc, name.as_bytes())?;

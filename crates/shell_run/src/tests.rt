@@ -1,4 +1,4 @@
-// What faults leave of a run.
+// What runs print, and what faults leave of them.
 ghost use Rattle.std.specs.Prelude.{None, [], IfOk, ◌≡◌};
 
 use super::*;
@@ -141,10 +141,20 @@ change-key b
 change-key -i b/c
 ";
 
+const SEEDS: &[u8] = b"create -o keyformat=raw -o keylocation=file:///k t
+snapshot t
+snapshot u@a
+snapshot t@a
+snapshot t@a
+snapshot t@b
+list
+";
+
 // A run of a script: which fetches and which fills fail, how many bytes of entropy there are, and then the
 // replies and the failed takings, each with its line and part. Of the first script line 1 takes a seed
 // although its key fails; line 5 makes a dataset only where line 1 has made none. Of the second the second of
-// three fetches of line 6 fails, and the seed of line 8 behind a good key.
+// three fetches of line 6 fails, and the seed of line 8 behind a good key. Of the third each snapshot takes a seed,
+// refused or not.
 type Row = (
     &'static [u8],
     &'static [u32],
@@ -154,7 +164,7 @@ type Row = (
     &'static [(u32, u32, FoundKind)],
 );
 
-const ROWS: [Row; 5] = [
+const ROWS: [Row; 6] = [
     (
         KEYS,
         &[0],
@@ -203,6 +213,15 @@ const ROWS: [Row; 5] = [
           6 key a ok\n6 key b error 12 KeyFault\n6 key b/c ok\n6 ok 2/3\n7 key b ok\n7 ok 1/1\n\
           8 error 13 EntropyFault\n9 ok\n",
         &[(6, 1, FoundKind::NewKey), (8, 0, FoundKind::Seed)],
+    ),
+    (
+        SEEDS,
+        &[],
+        &[2],
+        144,
+        b"1 ok\n2 error 3 BadName 1\n3 error 1 NoSuch\n4 ok\n5 error 2 Exists\n6 error 13 EntropyFault\n\
+          7 set t aes-256-gcm root available\n7 snap t@a\n7 ok\n",
+        &[(3, 0, FoundKind::Seed), (6, 0, FoundKind::Seed)],
     ),
 ];
 
@@ -267,12 +286,12 @@ fn strings(alloc: Global, words: &[&str]) -> Result<Vec<String>, Fail> {
     Ok(strings)
 }
 
-// Runs a script of one line under these words.
-fn run_under(alloc: Global, words: &[&str], sink: &mut MemSink) -> Result<u8, Fail> {
+// Runs a script under these words, over entropy for three seeds.
+fn run_under(alloc: Global, words: &[&str], script: &[u8], sink: &mut MemSink) -> Result<u8, Fail> {
     let words = strings(alloc, words)?;
-    let mut source = MemSource::new(Vec::from_slice(alloc, b"list\n")?, Vec::new(alloc));
+    let mut source = MemSource::new(Vec::from_slice(alloc, script)?, Vec::new(alloc));
     let mut files = key_files(alloc, &[])?;
-    let mut entropy = entropy_of(alloc, 0, &[])?;
+    let mut entropy = entropy_of(alloc, 96, &[])?;
     let mut found = nothing_found(alloc)?;
     Ok(run_alone::<_, _, _, _, MemShelf>(
         alloc,
@@ -290,13 +309,152 @@ fn words_in_and_out_of_form(rt: HostRuntime) -> Result<(), Fail> {
     let alloc = rt.alloc();
     for (words, status) in WORDS {
         let mut sink = MemSink::new(Vec::new(alloc));
-        let answered = run_under(alloc, words, &mut sink)?;
+        let answered = run_under(alloc, words, b"list\n", &mut sink)?;
         let printed = if status == 0 {
             b"1 ok\n".as_slice()
         } else {
             USAGE
         };
         assert_eq!(rt; (answered, sink.bytes()), (status, printed));
+    }
+    Ok(())
+}
+
+const FILES: &[u8] = b"create -o keyformat=raw -o keylocation=file:///k -o recordsize=512 t
+mount t
+touch t f
+write t f 510 0a0b0C0d
+read t f 509 5
+read t f 600 1
+truncate t f 511
+ls t
+verify t
+ls t@s
+unmount t
+unload-key t
+read t f 0 1
+load-key t
+mount t
+read t f 510 9
+touch t f
+write t f 4294967296 00
+rm t f
+read t f 0 1
+touch t g:
+ls t
+";
+
+const FILE_REPLIES: &[u8] = b"1 ok
+2 ok
+3 ok
+4 ok 2 0
+5 ok 000a0b0c0d
+6 ok -
+7 ok
+8 file f 511
+8 ok
+9 ok 2
+10 error 26 NoSnapshot
+11 ok
+12 ok
+13 error 20 NotMounted
+14 ok
+15 ok
+16 ok 0a
+17 error 22 FileExists
+18 error 23 TooBig 4294967296
+19 ok
+20 error 21 NoFile
+21 error 3 BadName 1
+22 ok
+";
+
+// The directory's block takes the first draw.
+const WRITES: &[u8] = b"create -o keyformat=raw -o keylocation=file:///k -o recordsize=512 tank
+mount tank
+touch tank f
+write tank f 0 01
+write tank f 0 01
+write tank f 0 01
+write tank f 0 01
+write tank f 0 01
+";
+
+const WRITE_REPLIES: &[u8] =
+    b"1 ok\n2 ok\n3 ok\n4 ok 1 0\n5 ok 1 1\n6 ok 1 1\n7 ok 1 2\n8 ok 1 2\n";
+
+const SNAPS: &[u8] = b"create -o keyformat=raw -o keylocation=file:///k -o recordsize=512 t
+mount t
+touch t f
+write t f 0 01
+snapshot t@b
+write t f 0 02
+snapshot t@a
+clone t@b c
+mount c
+read c f 0 1
+read t@b f 0 1
+read t f 0 1
+list
+destroy t@b
+destroy t@a
+destroy t
+destroy c
+unmount c
+destroy c
+destroy t@b
+unmount t
+destroy t
+clone t c
+clone t@b c@
+list
+";
+
+const SNAP_REPLIES: &[u8] = b"1 ok
+2 ok
+3 ok
+4 ok 1 0
+5 ok
+6 ok 1 0
+7 ok
+8 ok
+9 ok
+10 ok 01
+11 ok 01
+12 ok 02
+13 set t aes-256-gcm root available
+13 snap t@b
+13 snap t@a
+13 set c aes-256-gcm inherit available
+13 ok
+14 error 18 HasClones
+15 ok
+16 error 17 HasChildren
+17 error 19 Mounted
+18 ok
+19 ok
+20 ok
+21 ok
+22 ok
+23 error 3 BadName 1
+24 error 3 BadName 1
+25 ok
+";
+
+// The words of a run, its script and its replies.
+const RUNS: [(&[&str], &[u8], &[u8]); 3] = [
+    (&[], FILES, FILE_REPLIES),
+    (&["--max-salt-uses", "2"], WRITES, WRITE_REPLIES),
+    (&[], SNAPS, SNAP_REPLIES),
+];
+
+#[test]
+fn a_run_writes_reads_and_makes_snapshots(rt: HostRuntime) -> Result<(), Fail> {
+    let alloc = rt.alloc();
+    for (words, script, replies) in RUNS {
+        let mut sink = MemSink::new(Vec::new(alloc));
+        let status = run_under(alloc, words, script, &mut sink)?;
+        assert_eq!(rt; (status, sink.bytes()), (0, replies));
     }
     Ok(())
 }
