@@ -42,7 +42,7 @@ use Rattle.file_dataset.specs.declared.kind.Kind.{Kind}
 use Rattle.file_dataset.proofs.EditParts.{IsCut, RowEdit, Wrote}
 use Rattle.file_dataset.proofs.EntryLemmas.{edit_log, other_length, other_ref, own_length, own_ref, told_other}
 use Rattle.file_dataset.proofs.FileLists.{Matches, by_space, changed_files, files_by, found_matches, one_file}
-use Rattle.file_dataset.proofs.FilesLemmas.{HasFiles, files_are, files_parts, object_is, object_stays}
+use Rattle.file_dataset.proofs.FilesLemmas.{HasFiles, files_are, files_parts, object_goes_on, object_is}
 use Rattle.file_dataset.proofs.TableLemmas.{found_is}
 use Rattle.file_dataset.proofs.TellLemmas.{directory_same, in_form, row_has, row_is, row_length, row_refs, some_wide}
 
@@ -94,7 +94,7 @@ module _ (key : KeyValue) (salts : SaltState) (blocks : List (List ℕ)) (log : 
       → object_bytes key blocks log record_size (head_spot head) object ≡ Some bytes
       → object_bytes key (blocks ++ more) later_log record_size (head_spot head) object ≡ Some bytes
   kept_bytes more object bytes apart none has =
-      object_stays key blocks more log later_log record_size (head_spot head) object bytes
+      object_goes_on key blocks more log later_log record_size (head_spot head) (head_spot head) object bytes
       (other_length log kind head e made_object (refs_to key salts (length blocks) e.change.texts) object apart none)
       (λ index. other_ref log kind head e made_object (refs_to key salts (length blocks) e.change.texts) record_size object index apart none) has
 

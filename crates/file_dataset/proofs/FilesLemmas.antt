@@ -1,4 +1,5 @@
--- What the files of a spot are made of, and that they stay while the log tells the same of it and the shelf grows.
+-- What the files of a spot are made of, and that a spot has those of another, or its own of before, while the
+-- log tells the same of it and the shelf grows.
 use Rattle.std.proofs.Common.{◌≡◌, ℕ, Bool, List, [], ◌∷◌, ◌++◌, Option, Some, None, Result, Ok, Err, IfSome, refl, ap, sym, subst, ◌∙◌}
 use Rattle.std.specs.Prelude.{is_some}
 use Rattle.std.specs.List.{All}
@@ -15,7 +16,7 @@ use Rattle.file_blocks.proofs.WholeBytes.{refs_grown}
 use Rattle.file_directory.specs.declared.directory.DirectoryEntry.{DirectoryEntry}
 use Rattle.file_directory.specs.Reading.{read_directory}
 use Rattle.file_dataset.specs.Edits.{Files}
-use Rattle.file_dataset.specs.Files.{KeepsFiles, files, files_in, if_ok, last_entries, object_bytes}
+use Rattle.file_dataset.specs.Files.{HasFilesOf, KeepsFiles, files, files_in, if_ok, last_entries, object_bytes}
 use Rattle.file_dataset.proofs.FileLists.{files_by, same_files}
 
 -- ---- the parts
@@ -76,47 +77,52 @@ module _ (key : KeyValue) (blocks : List (List ℕ)) (log : List LogEntry) (reco
   unfolding files_by
   files_are text entries all has read are = rw (has, read) are
 
--- ---- what stays
+-- ---- what goes on
 
-module _ (key : KeyValue) (blocks more : List (List ℕ)) (log later : List LogEntry) (record_size : ℕ) (spot : Spot) where
-  -- of an object of which the log tells the same
-  pub object_stays : (object : ℕ) (bytes : List ℕ) → last_length later spot object ≡ last_length log spot object
-      → ((index : ℕ) → last_ref record_size later spot object index ≡ last_ref record_size log spot object index)
-      → object_bytes key blocks log record_size spot object ≡ Some bytes
+module _ (key : KeyValue) (blocks more : List (List ℕ)) (log later : List LogEntry) (record_size : ℕ) (from spot : Spot) where
+  -- of an object of which the later log tells what the earlier one told
+  pub object_goes_on : (object : ℕ) (bytes : List ℕ) → last_length later spot object ≡ last_length log from object
+      → ((index : ℕ) → last_ref record_size later spot object index ≡ last_ref record_size log from object index)
+      → object_bytes key blocks log record_size from object ≡ Some bytes
       → object_bytes key (blocks ++ more) later record_size spot object ≡ Some bytes
-  object_stays object bytes long refs is =
-      let was = object_parts key blocks log record_size spot object bytes is in
-      let same : last_ref record_size later spot object ≡ last_ref record_size log spot object = fun_ext refs in
+  object_goes_on object bytes long refs is =
+      let was = object_parts key blocks log record_size from object bytes is in
+      let same : last_ref record_size later spot object ≡ last_ref record_size log from object = fun_ext refs in
       object_is key (blocks ++ more) later record_size spot object was.size bytes (long ∙ was.long)
       (ap (bytes_of_refs key (blocks ++ more) record_size was.size) same
-      ∙ refs_grown key blocks more record_size was.size (last_ref record_size log spot object) bytes was.has)
+      ∙ refs_grown key blocks more record_size was.size (last_ref record_size log from object) bytes was.has)
 
-  pub files_stay : (all : Files) → KeepsLast log spot later spot → files_in key blocks log record_size spot ≡ Some all
+  pub all_go_on : (all : Files) → KeepsLast log from later spot → files_in key blocks log record_size from ≡ Some all
       → files_in key (blocks ++ more) later record_size spot ≡ Some all
-  files_stay all kept is =
-      let was = files_parts key blocks log record_size spot all is in
-      let stays : (object : ℕ) (bytes : List ℕ) → object_bytes key blocks log record_size spot object ≡ Some bytes
+  all_go_on all kept is =
+      let was = files_parts key blocks log record_size from all is in
+      let goes_on : (object : ℕ) (bytes : List ℕ) → object_bytes key blocks log record_size from object ≡ Some bytes
       → object_bytes key (blocks ++ more) later record_size spot object ≡ Some bytes
-      = λ object bytes has. object_stays object bytes (kept.lengths object) (λ index. kept.refs record_size object index) has in
-      let objects : (λ object. is_some (last_length later spot object)) ≡ (λ object. is_some (last_length log spot object)) =
+      = λ object bytes has. object_goes_on object bytes (kept.lengths object) (λ index. kept.refs record_size object index) has in
+      let objects : (λ object. is_some (last_length later spot object)) ≡ (λ object. is_some (last_length log from object)) =
       fun_ext (λ object. ap is_some (kept.lengths object)) in
-      files_are key (blocks ++ more) later record_size spot was.text was.entries all (stays 1 was.text was.has_text)
+      files_are key (blocks ++ more) later record_size spot was.text was.entries all (goes_on 1 was.text was.has_text)
       (ap (λ (f : ℕ → Bool). read_directory f was.text) objects ∙ was.read)
-      (same_files (object_bytes key blocks log record_size spot) (object_bytes key (blocks ++ more) later record_size spot) was.entries all
-      (λ k d within bytes has. stays _ bytes has) was.are)
+      (same_files (object_bytes key blocks log record_size from) (object_bytes key (blocks ++ more) later record_size spot) was.entries all
+      (λ k d within bytes has. goes_on _ bytes has) was.are)
+
+pub files_go_on : (key : KeyValue) (from spot : Spot) (put : List (List ℕ)) (old new : FamilyState) → new.block ≡ old.block
+    → KeepsLast old.log from new.log spot → new.shelf.placed ≡ option_map (λ blocks. blocks ++ put) old.shelf.placed
+    → HasFilesOf key old from new spot
+unfolding files
+files_go_on key from spot put old new block kept placed = by_placed old.shelf.placed refl
+  where
+    by_files : (blocks : List (List ℕ)) → old.shelf.placed ≡ Some blocks → (found : Option Files) → files_in key blocks old.log old.block from ≡ found
+        → IfSome found (λ before. option_and_then (λ blocks. files_in key blocks new.log new.block spot) new.shelf.placed ≡ Some before)
+    by_files blocks has None same = tt
+    by_files blocks has (Some all) same = rw (placed, has, block) (all_go_on key blocks put old.log new.log old.block from spot all kept same)
+
+    by_placed : (found : Option (List (List ℕ))) → old.shelf.placed ≡ found
+        → IfSome (option_and_then (λ blocks. files_in key blocks old.log old.block from) found)
+        (λ before. option_and_then (λ blocks. files_in key blocks new.log new.block spot) new.shelf.placed ≡ Some before)
+    by_placed None has = tt
+    by_placed (Some blocks) has = by_files blocks has (files_in key blocks old.log old.block from) refl
 
 pub keeps_files : (key : KeyValue) (spot : Spot) (put : List (List ℕ)) (old new : FamilyState) → new.block ≡ old.block → KeepsLast old.log spot new.log spot
     → new.shelf.placed ≡ option_map (λ blocks. blocks ++ put) old.shelf.placed → KeepsFiles key spot old new
-unfolding files
-keeps_files key spot put old new block kept placed = by_placed old.shelf.placed refl
-  where
-    by_files : (blocks : List (List ℕ)) → old.shelf.placed ≡ Some blocks → (found : Option Files) → files_in key blocks old.log old.block spot ≡ found
-        → IfSome found (λ before. option_and_then (λ blocks. files_in key blocks new.log new.block spot) new.shelf.placed ≡ Some before)
-    by_files blocks has None same = tt
-    by_files blocks has (Some all) same = rw (placed, has, block) (files_stay key blocks put old.log new.log old.block spot all kept same)
-
-    by_placed : (found : Option (List (List ℕ))) → old.shelf.placed ≡ found
-        → IfSome (option_and_then (λ blocks. files_in key blocks old.log old.block spot) found)
-        (λ before. option_and_then (λ blocks. files_in key blocks new.log new.block spot) new.shelf.placed ≡ Some before)
-    by_placed None has = tt
-    by_placed (Some blocks) has = by_files blocks has (files_in key blocks old.log old.block spot) refl
+keeps_files key spot put old new block kept placed = files_go_on key spot spot put old new block kept placed

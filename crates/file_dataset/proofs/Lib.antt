@@ -8,6 +8,7 @@ pub mod LeastLemmas
 pub mod FileLists
 pub mod ObjectLemmas
 pub mod FilesLemmas
+pub mod FreshFiles
 pub mod KeepLemmas
 pub mod EntryLemmas
 pub mod TableLemmas

@@ -56,6 +56,12 @@ abbrev pub ChangesFiles : KeyValue → (Files → Files) → Spot → (old new :
 ChangesFiles key edit spot old new =
     IfSome (files key old spot) (λ before. files key new spot ≡ Some (edit before))
 
+-- a spot of the later family has the files that a spot of the earlier one had, wherever they are defined
+abbrev pub HasFilesOf : KeyValue → (earlier : FamilyState) → (from : Spot) → (later : FamilyState) → (spot : Spot)
+    → Type 0
+HasFilesOf key earlier from later spot =
+    IfSome (files key earlier from) (λ before. files key later spot ≡ Some before)
+
 abbrev pub KeepsFiles : KeyValue → Spot → (old new : FamilyState) → Type 0
 KeepsFiles key spot old new = ChangesFiles key (λ before. before) spot old new
 
