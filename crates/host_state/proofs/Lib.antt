@@ -5,3 +5,4 @@ pub mod FileLemmas
 pub mod UndoLemmas
 pub mod SpotLemmas
 pub mod SpotHosts
+pub mod FilesLemmas

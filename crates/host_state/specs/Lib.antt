@@ -3,3 +3,4 @@ pub mod FileLines
 pub mod FileAnswers
 pub mod SpotLines
 pub mod SpotAnswers
+pub mod Grown

@@ -2,9 +2,13 @@
 #![tactic(auto)]
 
 mod families;
+mod file_laws;
 mod host;
 mod lone_keys;
 
+pub use file_laws::{
+    files_stay_where_nothing_is_done, snapshots_and_clones_have_the_files_of_their_origin,
+};
 pub use host::Host;
 
 #[cfg(test)]
