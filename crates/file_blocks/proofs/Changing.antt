@@ -23,7 +23,7 @@ use Rattle.indirect_macs.specs.Steps.{Puts, PutEnded}
 use Rattle.indirect_macs.specs.Walk.{walk}
 use Rattle.indirect_macs.proofs.Growth.{walk-grown}
 use Rattle.indirect_macs.proofs.Putting.{same_fault}
-use Rattle.indirect_macs.proofs.RunBounds.{puts_where_levels_grow}
+use Rattle.indirect_macs.proofs.RunBounds.{puts_where_levels_grow, touched_few}
 use Rattle.indirect_macs.proofs.RunLevels.{blocks_nothing}
 use Rattle.indirect_macs.proofs.Walking.{after_more, fails_more, held_kept}
 use Rattle.file_blocks.specs.declared.object.Object.{Object}
@@ -51,19 +51,17 @@ blocks_twice p q s =
     append_assoc s.sizes (map length p) (map length q) ∙ ap (λ (rest : List ℕ). s.sizes ++ rest) (sym (map-append length p q)) in
     λ i. record s { sizes = sizes i; placed = option_more s.placed p q i; held = option_more s.held p q i }
 
--- some calls were made, and these blocks put
-record Went {X : Type 0} (put : List (List ℕ)) (result : Result X MacError) (s t : ShelfState) : Type 0 where
-  pub calls : ℕ
+-- so many calls were made, and these blocks put
+record Went {X : Type 0} (calls : ℕ) (put : List (List ℕ)) (result : Result X MacError) (s t : ShelfState) : Type 0 where
   pub after : t ≡ after_calls calls (with_blocks put s)
   pub fault : is_fault result ≡ fails_within calls s.armed
 
 went_on : {X : Type 0} (calls more_calls : ℕ) (put more : List (List ℕ)) (result : Result X MacError) (s m t : ShelfState)
     → m ≡ after_calls calls (with_blocks put s) → fails_within calls s.armed ≡ false
     → t ≡ after_calls more_calls (with_blocks more m) → is_fault result ≡ fails_within more_calls m.armed
-    → Went {X = X} (put ++ more) result s t
+    → Went {X = X} (calls + more_calls) (put ++ more) result s t
 went_on calls more_calls put more result s m t first quiet rest fault =
     record {
-      calls = calls + more_calls;
       after = rest ∙ ap (λ (state : ShelfState). after_calls more_calls (with_blocks more state)) first
           ∙ ap (after_calls more_calls) (blocks_behind more calls (with_blocks put s) ∙ ap (after_calls calls) (blocks_twice put more s))
           ∙ sym (after_more calls more_calls (with_blocks (put ++ more) s));
@@ -85,7 +83,7 @@ changes_none reads puts x s =
 
 -- too few draws are left
 pub leaving_full : {X : Type 0} (count : ℕ) (s : ShelfState) (salts : SaltState) → MAX_DRAWS < salts.made + count
-    → Leaving {X = X} count (Err DrawsFull) s s salts salts
+    → Leaving {X = X} count 0 (Err DrawsFull) s s salts salts
 leaving_full count s salts few =
     record {
       count = count;
@@ -94,6 +92,7 @@ leaving_full count s salts few =
       put = [];
       draws = 0;
       bound = omega arith;
+      within = omega arith;
       after = sym (blocks_nothing s);
       fault = refl;
       drawn = sym (no_draws salts);
@@ -104,7 +103,7 @@ leaving_full count s salts few =
 -- the texts weren't all put
 pub leaving_stop : {X Y : Type 0} (key : KeyValue) (texts : List (List ℕ)) (stop : MacError) (s t : ShelfState) (salts left : SaltState)
     → HasDraws salts (length texts) → Seals {X = Y} 0 (sealed_texts key salts texts) (Err stop) s t salts left
-    → Leaving {X = X} (length texts) (Err (Stopped stop)) s t salts left
+    → Leaving {X = X} (length texts) 0 (Err (Stopped stop)) s t salts left
 leaving_stop {X = X} {Y = Y} key texts stop s t salts left enough seals =
     let size = length-sealed key salts texts in
     record {
@@ -114,6 +113,7 @@ leaving_stop {X = X} {Y = Y} key texts stop s t salts left enough seals =
       put = seals.puts.put;
       draws = seals.draws;
       bound = omega (arith, size, ap length seals.puts.parts, length-append seals.puts.put seals.puts.rest);
+      within = omega (arith, size, seals.puts.bound);
       after = seals.puts.after;
       fault = same_fault X Y stop ∙ seals.puts.fault;
       drawn = seals.drawn;
@@ -132,20 +132,28 @@ nodes_few tree blocks first refs texts some few within size =
     subst (λ (n : ℕ). most_puts (run_for tree blocks first refs) ≤ n / 31 + 12) size
     (puts_where_levels_grow (run_for tree blocks first refs) some (omega (arith, within, size)) few)
 
+-- the nodes of the old tree over them, at most so many
+pub nodes_read : (tree : ObjTree) (blocks first : ℕ) (refs : List (Option BlockRef)) (texts : List (List ℕ)) → tree.levels ≤ 5 → blocks ≤ 8388608
+    → first + length texts ≤ blocks → length refs ≡ length texts → most_reads (run_for tree blocks first refs) ≤ length texts / 31 + 9
+nodes_read tree blocks first refs texts low few within size =
+    subst (λ (n : ℕ). most_reads (run_for tree blocks first refs) ≤ n / 31 + 9) size
+    (touched_few (run_for tree blocks first refs) tree.levels low (omega (arith, within, size)) few)
+
 -- the nodes were put
 pub leaving_ok : {X Y : Type 0} (key : KeyValue) (texts : List (List ℕ)) (x : X) (y : Y) (reads puts : ℕ) (s m t : ShelfState) (salts left : SaltState)
-    → puts ≤ length texts / 31 + 12 → HasDraws salts (length texts) → IsSealed key texts s m salts left → Changes {X = Y} reads puts (Ok y) m t
-    → Leaving {X = X} (length texts) (Ok x) s t salts left
-leaving_ok {X = X} {Y = Y} key texts x y reads puts s m t salts left few enough all nodes =
+    → reads ≤ length texts / 31 + 9 → puts ≤ length texts / 31 + 12 → HasDraws salts (length texts) → IsSealed key texts s m salts left → Changes {X = Y} reads puts (Ok y) m t
+    → Leaving {X = X} (length texts) 0 (Ok x) s t salts left
+leaving_ok {X = X} {Y = Y} key texts x y reads puts s m t salts left read few enough all nodes =
     let went = went_on {X = Y} all.put.calls nodes.calls (sealed_texts key salts texts) nodes.put (Ok y) s m t all.put.after all.put.quiet nodes.after nodes.fault in
     let size : length (sealed_texts key salts texts ++ nodes.put) ≡ length texts + length nodes.put = sealed_size key salts texts nodes.put in
     record {
       count = length texts;
       few = omega arith;
-      calls = went.calls;
+      calls = all.put.calls + nodes.calls;
       put = sealed_texts key salts texts ++ nodes.put;
       draws = length texts;
       bound = omega (arith, size, nodes.few, few);
+      within = omega (arith, length-sealed key salts texts, all.put.bound, nodes.bound, few, read);
       after = went.after;
       fault = went.fault;
       drawn = all.drawn;
@@ -154,18 +162,19 @@ leaving_ok {X = X} {Y = Y} key texts x y reads puts s m t salts left few enough 
     }
 
 pub leaving_err : {X Y : Type 0} (key : KeyValue) (texts : List (List ℕ)) (stop : MacError) (reads puts : ℕ) (s m t : ShelfState) (salts left : SaltState)
-    → puts ≤ length texts / 31 + 12 → HasDraws salts (length texts) → IsSealed key texts s m salts left → Changes {X = Y} reads puts (Err stop) m t
-    → Leaving {X = X} (length texts) (Err (Stopped stop)) s t salts left
-leaving_err {X = X} {Y = Y} key texts stop reads puts s m t salts left few enough all nodes =
+    → reads ≤ length texts / 31 + 9 → puts ≤ length texts / 31 + 12 → HasDraws salts (length texts) → IsSealed key texts s m salts left → Changes {X = Y} reads puts (Err stop) m t
+    → Leaving {X = X} (length texts) 0 (Err (Stopped stop)) s t salts left
+leaving_err {X = X} {Y = Y} key texts stop reads puts s m t salts left read few enough all nodes =
     let went = went_on {X = Y} all.put.calls nodes.calls (sealed_texts key salts texts) nodes.put (Err stop) s m t all.put.after all.put.quiet nodes.after nodes.fault in
     let size : length (sealed_texts key salts texts ++ nodes.put) ≡ length texts + length nodes.put = sealed_size key salts texts nodes.put in
     record {
       count = length texts;
       few = omega arith;
-      calls = went.calls;
+      calls = all.put.calls + nodes.calls;
       put = sealed_texts key salts texts ++ nodes.put;
       draws = length texts;
       bound = omega (arith, size, nodes.few, few);
+      within = omega (arith, length-sealed key salts texts, all.put.bound, nodes.bound, few, read);
       after = went.after;
       fault = same_fault X Y stop ∙ went.fault;
       drawn = all.drawn;
@@ -332,7 +341,7 @@ changed_ok {X = X} {Y = Y} object key held c x y reads s m t salts left enough a
     let went = went_on {X = Y} all.put.calls nodes.calls sealed nodes.put (Ok y) s m t all.put.after all.put.quiet nodes.after nodes.fault in
     let size : length (sealed ++ nodes.put) ≡ length c.texts + length nodes.put = sealed_size key salts c.texts nodes.put in
     record {
-      calls = went.calls;
+      calls = all.put.calls + nodes.calls;
       put = sealed ++ nodes.put;
       rest = nodes.rest;
       draws = length c.texts;
@@ -353,7 +362,7 @@ changed_err {X = X} {Y = Y} object key held c stop reads s m t salts left enough
     let went = went_on {X = Y} all.put.calls nodes.calls sealed nodes.put (Err stop) s m t all.put.after all.put.quiet nodes.after nodes.fault in
     let size : length (sealed ++ nodes.put) ≡ length c.texts + length nodes.put = sealed_size key salts c.texts nodes.put in
     record {
-      calls = went.calls;
+      calls = all.put.calls + nodes.calls;
       put = sealed ++ nodes.put;
       rest = nodes.rest;
       draws = length c.texts;

@@ -49,7 +49,7 @@ read_fault n F y calls fault s m r is =
     is ∙ ap (λ (state : ShelfState). fails_within calls state.armed) r.after ∙ sym (fails_more r.calls calls s (sym r.fault))
 
 pub leaving_read : {X Y : Type 0} (n low most : ℕ) (F : MacError → Type 0) (y : Y) (result : Result X WriteError) (s m t : ShelfState) (salts left : SaltState)
-    → low ≤ most → Reading {X = Y} n F (Ok y) s m → Leaving {X = X} low result m t salts left → Leaving {X = X} most result s t salts left
+    → low ≤ most → Reading {X = Y} n F (Ok y) s m → Leaving {X = X} low 0 result m t salts left → Leaving {X = X} most n result s t salts left
 leaving_read n low most F y result s m t salts left wider r leaving =
     record {
       count = leaving.count;
@@ -58,6 +58,7 @@ leaving_read n low most F y result s m t salts left wider r leaving =
       put = leaving.put;
       draws = leaving.draws;
       bound = leaving.bound;
+      within = omega (arith, leaving.within, r.bound);
       after = read_after n F y leaving.calls leaving.put s m t r leaving.after;
       fault = read_fault n F y leaving.calls _ s m r leaving.fault;
       drawn = leaving.drawn;
@@ -65,9 +66,9 @@ leaving_read n low most F y result s m t salts left wider r leaving =
       leaves = leaving.leaves;
     }
 
-pub leaving_wider : {X : Type 0} (low most : ℕ) (result : Result X WriteError) (s t : ShelfState) (salts left : SaltState)
-    → low ≤ most → Leaving {X = X} low result s t salts left → Leaving {X = X} most result s t salts left
-leaving_wider low most result s t salts left wider leaving =
+pub leaving_wider : {X : Type 0} (low most reads more : ℕ) (result : Result X WriteError) (s t : ShelfState) (salts left : SaltState)
+    → low ≤ most → reads ≤ more → Leaving {X = X} low reads result s t salts left → Leaving {X = X} most more result s t salts left
+leaving_wider low most reads more result s t salts left wider further leaving =
     record {
       count = leaving.count;
       few = omega (arith, leaving.few, wider);
@@ -75,6 +76,7 @@ leaving_wider low most result s t salts left wider leaving =
       put = leaving.put;
       draws = leaving.draws;
       bound = leaving.bound;
+      within = omega (arith, leaving.within, further);
       after = leaving.after;
       fault = leaving.fault;
       drawn = leaving.drawn;
@@ -83,7 +85,7 @@ leaving_wider low most result s t salts left wider leaving =
     }
 
 pub leaving_unread : {X Y : Type 0} (n most : ℕ) (F : MacError → Type 0) (stop : MacError) (s t : ShelfState) (salts : SaltState)
-    → Reading {X = Y} n F (Err stop) s t → Leaving {X = X} most (Err (Stopped stop)) s t salts salts
+    → Reading {X = Y} n F (Err stop) s t → Leaving {X = X} most n (Err (Stopped stop)) s t salts salts
 leaving_unread {X = X} {Y = Y} n most F stop s t salts r =
     record {
       count = 0;
@@ -92,6 +94,7 @@ leaving_unread {X = X} {Y = Y} n most F stop s t salts r =
       put = [];
       draws = 0;
       bound = omega arith;
+      within = omega (arith, r.bound);
       after = r.after ∙ ap (after_calls r.calls) (sym (blocks_nothing s));
       fault = same_fault X Y stop ∙ r.fault;
       drawn = sym (no_draws salts);

@@ -1,7 +1,7 @@
 -- New texts of an object's blocks: under which draws they are sealed, what is put, in which order, and the new
 -- object. Each text is sealed under a draw of its own, and put behind those before it; then the nodes over
 -- them are put.
-use Rattle.std.specs.Prelude.{ℕ, ◌+◌, ◌-◌, ◌/◌, ◌^◌, ◌<◌, ◌≤◌, ◌≡◌, ◌==◌, ◌⊎◌, Bool, false, min, nat_lt, if◌then◌else◌, List, [], ◌∷◌, ◌++◌, length, Option, Some, None, Result, Ok, Err, IsOk, ⊤}
+use Rattle.std.specs.Prelude.{ℕ, ◌+◌, ◌-◌, ◌*◌, ◌/◌, ◌^◌, ◌<◌, ◌≤◌, ◌≡◌, ◌==◌, ◌⊎◌, Bool, false, min, nat_lt, if◌then◌else◌, List, [], ◌∷◌, ◌++◌, length, Option, Some, None, Result, Ok, Err, IsOk, ⊤}
 use Rattle.block_crypt.specs.Blocks.{KeyValue, sealed_block}
 use Rattle.salt_rotation.specs.SaltState.{SaltState}
 use Rattle.salt_rotation.specs.Salts.{drawn}
@@ -164,10 +164,15 @@ Leaves (Err DrawsFull) salts count put draws = (put ≡ 0) × (draws ≡ 0) × (
 Leaves {X = X} (Err (Stopped stop)) salts count put draws =
     DrawnFor {X = X} count put draws (Err stop) × (draws ≡ 0 ⊎ HasDraws salts count)
 
--- on every shelf, of a change of at most so many blocks: some calls were made, some blocks and nodes put, few
--- beside the change's blocks, and some draws made; and the answer is a failure of the shelf exactly where one of
--- the calls was the armed one
-pub record Leaving {X : Type 0} (most : ℕ) (result : Result X WriteError) (old new : ShelfState)
+-- how many calls of a shelf put so many texts at most: one for each text, and those for the nodes over them, of the
+-- old tree that is read and of the new one that is put
+abbrev pub calls_of : (count : ℕ) → ℕ
+calls_of count = count + (2 * (count / 31) + 21)
+
+-- on every shelf, of a change of at most so many blocks behind so many calls that read: some calls were made, some
+-- blocks and nodes put, few beside the change's blocks, and some draws made; and the answer is a failure of the
+-- shelf exactly where one of the calls was the armed one
+pub record Leaving {X : Type 0} (most reads : ℕ) (result : Result X WriteError) (old new : ShelfState)
     (salts left : SaltState) : Type 0 where
   pub count : ℕ
   pub few : count ≤ most
@@ -175,6 +180,7 @@ pub record Leaving {X : Type 0} (most : ℕ) (result : Result X WriteError) (old
   pub put : List (List ℕ)
   pub draws : ℕ
   pub bound : length put ≤ count + (count / 31 + 12)
+  pub within : calls ≤ reads + calls_of count
   pub after : new ≡ after_calls calls (with_blocks put old)
   pub fault : is_shelf_fault result ≡ fails_within calls old.armed
   pub drawn : left ≡ after_draws draws salts

@@ -103,6 +103,11 @@ taken_in w front back index = if index == first_of w then front else (if index =
 abbrev pub count_groups : Write → ℕ
 count_groups w = last_of w / 32 + 1 - first_of w / 32
 
+-- how many calls of a shelf read what a write takes over at most: those over a block and those over the first block
+-- of each further group, of each the block and the nodes over it
+abbrev pub reads_of : Write → ℕ
+reads_of w = (w.tree.levels + 1) * (count_groups w + 1)
+
 -- the walks to the first block of so many groups from this one on pass, or the first that fails
 unfoldable pub groups_at : (held : List (List ℕ)) → (record_size : ℕ) → ObjTree → (from count : ℕ)
     → Result (Unit {0}) MacError

@@ -100,7 +100,7 @@ fn put_change<K: BlockKey, B: Shelf, T: Texts>(
     requires stays { plan.now.stays ≡ true
         → plan.now.tree.levels ≡ levels_for (blocks_for plan.now.block plan.now.length) }
     requires draws { HasDraws salts.old (length (T.told texts.now)) }
-    ensures leaving { Leaving (length (T.told texts.now)) result (B.told shelf.old) (B.told shelf.new)
+    ensures leaving { Leaving (length (T.told texts.now)) 0 result (B.told shelf.old) (B.told shelf.new)
         salts.old salts.new }
     ensures told { IfSome (B.told shelf.old).held (λ held.
         PassesIn (K.told key.now) salts.old held (length (B.told shelf.old).sizes)
@@ -155,7 +155,7 @@ pub(crate) fn change_object<K: BlockKey, B: Shelf, T: Texts>(
     requires sizes { All (λ text. (1 ≤ length text) × (length text ≤ plan.now.block)) (T.told texts.now) }
     requires stays { plan.now.stays ≡ true
         → plan.now.tree.levels ≡ levels_for (blocks_for plan.now.block plan.now.length) }
-    ensures leaving { Leaving (length (T.told texts.now)) result (B.told shelf.old) (B.told shelf.new)
+    ensures leaving { Leaving (length (T.told texts.now)) 0 result (B.told shelf.old) (B.told shelf.new)
         salts.old salts.new }
     ensures told { IfSome (B.told shelf.old).held (λ held.
         PassesIn (K.told key.now) salts.old held (length (B.told shelf.old).sizes)

@@ -7,13 +7,14 @@ ghost use Rattle.indirect_macs.specs.Runs.{Passes, levels_for};
 ghost use Rattle.indirect_macs.specs.Trees.{IsRunOn};
 ghost use Rattle.indirect_macs.specs.Walk.{place_of};
 ghost use Rattle.indirect_macs.specs.declared.refs.BlockRef.{BlockRef};
+ghost use Rattle.indirect_macs.specs.declared.refs.NodeRef.{NodeRef};
 ghost use Rattle.indirect_macs.specs.declared.refs.ObjTree.{ObjTree};
 ghost use Rattle.indirect_macs.specs.declared.refs.MacError.{MacError};
 ghost use Rattle.indirect_macs.specs.declared.refs.MacError.TheVariants as mac_error;
-ghost use Rattle.file_blocks.specs.Changes.{Change, held_with, object_in, puts_in, ref_in, run_in};
+ghost use Rattle.file_blocks.specs.Changes.{Change, calls_of, held_with, object_in, puts_in, ref_in, run_in};
 ghost use Rattle.file_blocks.specs.Objects.{blocks_for, count_touched, filled, object_range, part_of, spliced, text_at, text_of, texts_at};
 ghost use Rattle.file_blocks.specs.Places.{FailsFirst, IsBefore};
-ghost use Rattle.file_blocks.specs.Writes.{Write, change_to, cut_by, end_of, front_at, last_kept, left_of, new_texts};
+ghost use Rattle.file_blocks.specs.Writes.{Write, change_to, cut_by, end_of, front_at, last_kept, left_of, new_texts, reads_of};
 ghost use Rattle.file_blocks.specs.declared.object.Object.{Object};
 
 /// Blocks that are read one after another fail at the least place that fails: of all places over a
@@ -106,7 +107,9 @@ pub fn cuts_keep_what_stays()
 {}
 
 /// Worked values: bytes that are cut, filled up and written over, the blocks that some bytes touch, and
-/// bytes across three blocks of 4 of which the second is a hole.
+/// bytes across three blocks of 4 of which the second is a hole. How many calls of a shelf put one text
+/// and 62 texts at most, and how many read what is taken over by a write into the last block of a group
+/// and the first of the next, below two levels.
 pub fn bytes_by_hand()
     ensures cut { filled 2 (7 ∷ 8 ∷ 9 ∷ []) ≡ 7 ∷ 8 ∷ [] }
     ensures filled { filled 4 (7 ∷ 8 ∷ []) ≡ 7 ∷ 8 ∷ 0 ∷ 0 ∷ [] }
@@ -117,4 +120,12 @@ pub fn bytes_by_hand()
     ensures part { part_of 4 6 18
         (Some (1 ∷ 2 ∷ 3 ∷ []) ∷ None ∷ Some (4 ∷ 5 ∷ 6 ∷ 7 ∷ []) ∷ Some (8 ∷ 9 ∷ 10 ∷ 11 ∷ []) ∷ [])
         ≡ 3 ∷ 0 ∷ 0 ∷ 0 ∷ 0 ∷ 0 ∷ 4 ∷ 5 ∷ 6 ∷ 7 ∷ 8 ∷ 9 ∷ [] }
+    ensures calls { (calls_of 1 ≡ 22) × (calls_of 62 ≡ 87) }
+    ensures reads { (top : Option NodeRef) → let w : Write = record {
+      tree = record { levels = 2; top = top };
+      old_length = 0;
+      record_size = 4;
+      from = 126;
+      bytes = 1 ∷ 2 ∷ 3 ∷ 4 ∷ [];
+    } in reads_of w ≡ 9 }
 {}

@@ -4,7 +4,7 @@ ghost use Rattle.std.specs.Option.{option_map};
 ghost use Rattle.file_blocks.specs.Changes.{ref_in};
 ghost use Rattle.file_blocks.specs.Objects.{Gives, IsInRange, Reading};
 ghost use Rattle.file_blocks.specs.WriteFields.{write_of};
-ghost use Rattle.file_blocks.specs.Writes.{count_groups, count_of, first_of, front_at, front_from, groups_at, is_partial, new_texts, opened_as, taken_by, taken_from, taken_in, text_over, texts_over};
+ghost use Rattle.file_blocks.specs.Writes.{count_of, first_of, front_at, front_from, groups_at, is_partial, new_texts, opened_as, reads_of, taken_by, taken_from, taken_in, text_over, texts_over};
 
 use crate::block::{fails_at, open_ref};
 use crate::pieces::{first_of, last_of, piece_in, start_in};
@@ -176,7 +176,7 @@ pub fn read_write<K: BlockKey, B: Shelf>(
     shelf: &mut B,
     w: &Write,
 ) -> Result<Taken, MacError>
-    ensures reading { Reading ((w.now.tree.levels + 1) * (count_groups (write_of w.now) + 1))
+    ensures reading { Reading (reads_of (write_of w.now))
         (IsInRange w.now.tree.levels (first_of (write_of w.now)) (count_of (write_of w.now))) result
         (B.told shelf.old) (B.told shelf.new) }
     ensures front { IfOk result (λ taken. length taken.front.items ≤ w.now.block) }

@@ -6,7 +6,7 @@ ghost use Rattle.file_blocks.specs.Changes.{Changed, Leaving};
 ghost use Rattle.file_blocks.specs.Objects.{IsObject, blocks_for, count_touched};
 ghost use Rattle.file_blocks.specs.Outcomes.{IsNoted, IsWrote};
 ghost use Rattle.file_blocks.specs.WriteFields.{write_of, write_to};
-ghost use Rattle.file_blocks.specs.Writes.{change_of_cut, change_of_length, change_of_write, count_of, length_after};
+ghost use Rattle.file_blocks.specs.Writes.{change_of_cut, change_of_length, change_of_write, count_of, length_after, reads_of};
 
 use crate::change::{Plan, Wrote, change_object};
 use crate::new_texts::{CutTexts, WriteTexts};
@@ -37,7 +37,7 @@ fn set_length<K: BlockKey, B: Shelf>(
     requires most { block ≤ 131072 }
     requires bytes { new_length ≤ 4294967296 }
     requires order { object.now.length ≤ new_length }
-    ensures leaving { Leaving 0 result (B.told shelf.old) (B.told shelf.new) salts.old salts.new }
+    ensures leaving { Leaving 0 0 result (B.told shelf.old) (B.told shelf.new) salts.old salts.new }
     ensures told { IfSome (B.told shelf.old).held (λ held. Changed (λ wrote. wrote.object) (K.told key.now) held
         (Ok (change_of_length object.now.tree block new_length)) result
         (B.told shelf.old) (B.told shelf.new) salts.old salts.new) }
@@ -71,7 +71,7 @@ fn write_some<K: BlockKey, B: Shelf>(
 ) -> Result<Wrote, WriteError>
     requires old { w.now.old_length ≤ 4294967296 }
     requires tree { w.now.tree.levels ≡ levels_for (blocks_for w.now.block w.now.old_length) }
-    ensures leaving { Leaving (count_of (write_of w.now)) result (B.told shelf.old) (B.told shelf.new)
+    ensures leaving { Leaving (count_of (write_of w.now)) (reads_of (write_of w.now)) result (B.told shelf.old) (B.told shelf.new)
         salts.old salts.new }
     ensures told { IfSome (B.told shelf.old).held (λ held. Changed (λ wrote. wrote.object) (K.told key.now) held
         (change_of_write (K.told key.now) held (write_of w.now)) result
@@ -131,7 +131,8 @@ pub fn write_range<K: BlockKey, B: Shelf>(
     requires least { 512 ≤ block }
     requires most { block ≤ 131072 }
     requires end { from + length bytes.now ≤ 4294967296 }
-    ensures leaving { Leaving (count_touched block from (from + length bytes.now)) result
+    ensures leaving { Leaving (count_touched block from (from + length bytes.now))
+        (reads_of (write_to object.now block from bytes.now)) result
         (B.told shelf.old) (B.told shelf.new) salts.old salts.new }
     ensures told { IfSome (B.told shelf.old).held (λ held. Changed (λ wrote. wrote.object) (K.told key.now) held
         (change_of_write (K.told key.now) held (write_to object.now block from bytes.now)) result
@@ -177,7 +178,8 @@ fn cut_some<K: BlockKey, B: Shelf>(
     requires most { block ≤ 131072 }
     requires some { 0 < to }
     requires order { to < object.now.length }
-    ensures leaving { Leaving 1 result (B.told shelf.old) (B.told shelf.new) salts.old salts.new }
+    ensures leaving { Leaving 1 (object.now.tree.levels + 1) result (B.told shelf.old) (B.told shelf.new)
+        salts.old salts.new }
     ensures told { IfSome (B.told shelf.old).held (λ held. Changed (λ wrote. wrote.object) (K.told key.now) held
         (change_of_cut (K.told key.now) held block object.now to) result
         (B.told shelf.old) (B.told shelf.new) salts.old salts.new) }
@@ -223,7 +225,8 @@ pub fn cut_to<K: BlockKey, B: Shelf>(
     requires least { 512 ≤ block }
     requires most { block ≤ 131072 }
     requires bytes { to ≤ 4294967296 }
-    ensures leaving { Leaving 1 result (B.told shelf.old) (B.told shelf.new) salts.old salts.new }
+    ensures leaving { Leaving 1 (object.now.tree.levels + 1) result (B.told shelf.old) (B.told shelf.new)
+        salts.old salts.new }
     ensures told { IfSome (B.told shelf.old).held (λ held. Changed (λ wrote. wrote.object) (K.told key.now) held
         (change_of_cut (K.told key.now) held block object.now to) result
         (B.told shelf.old) (B.told shelf.new) salts.old salts.new) }

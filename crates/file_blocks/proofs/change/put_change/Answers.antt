@@ -9,7 +9,7 @@ use Rattle.file_blocks.specs.ChangeFields.{change_of}
 use Rattle.file_blocks.specs.Objects.{blocks_for}
 use Rattle.file_blocks.proofs.Ranges.{few_blocks}
 use Rattle.file_blocks.proofs.Sealing.{length-refs, sealed_all}
-use Rattle.file_blocks.proofs.Changing.{change_err, change_ok, changed_stop, for_held, is_wrote, leaving_err, leaving_ok, leaving_stop, nodes_few, refs_sized}
+use Rattle.file_blocks.proofs.Changing.{change_err, change_ok, changed_stop, for_held, is_wrote, leaving_err, leaving_ok, leaving_stop, nodes_few, nodes_read, refs_sized}
 use Rattle.file_blocks.proofs.change.put_change.Goals as goal
 
 pub returns-in-Err-clause-leaving : goal.returns-in-Err-clause-leaving
@@ -40,6 +40,8 @@ returns-in-Err-new_tree-clause-leaving g c =
     let size : length c.as_slice.result.now ≡ length (g.T.Texts.told c.args.texts.now) =
     ap length (c.as_slice.ensures.value ∙ c.in-Ok.ensures.refs) ∙ length-refs _ _ _ _ in
     leaving_err {X = Wrote} {Y = ObjTree} (g.K.BlockKey.told c.args.key.now) (g.T.Texts.told c.args.texts.now) c.in-Err-new_tree.stop _ _ _ (g.B.Shelf.told c.put_texts.new.shelf) _ _ _
+    (nodes_read plan.tree (blocks_for plan.block plan.length) plan.first c.as_slice.result.now (g.T.Texts.told c.args.texts.now)
+    c.requires.levels (few_blocks plan.block plan.length c.requires.least c.requires.bytes) c.requires.within size)
     (nodes_few plan.tree (blocks_for plan.block plan.length) plan.first c.as_slice.result.now (g.T.Texts.told c.args.texts.now)
     c.requires.above (few_blocks plan.block plan.length c.requires.least c.requires.bytes) c.requires.within size)
     c.requires.draws
@@ -58,6 +60,8 @@ returns-clause-leaving g c =
     let size : length c.as_slice.result.now ≡ length (g.T.Texts.told c.args.texts.now) =
     ap length (c.as_slice.ensures.value ∙ c.in-Ok.ensures.refs) ∙ length-refs _ _ _ _ in
     leaving_ok {X = Wrote} {Y = ObjTree} (g.K.BlockKey.told c.args.key.now) (g.T.Texts.told c.args.texts.now) _ c.in-Ok-new_tree.tree _ _ _ (g.B.Shelf.told c.put_texts.new.shelf) _ _ _
+    (nodes_read plan.tree (blocks_for plan.block plan.length) plan.first c.as_slice.result.now (g.T.Texts.told c.args.texts.now)
+    c.requires.levels (few_blocks plan.block plan.length c.requires.least c.requires.bytes) c.requires.within size)
     (nodes_few plan.tree (blocks_for plan.block plan.length) plan.first c.as_slice.result.now (g.T.Texts.told c.args.texts.now)
     c.requires.above (few_blocks plan.block plan.length c.requires.least c.requires.bytes) c.requires.within size)
     c.requires.draws
