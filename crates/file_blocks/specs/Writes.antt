@@ -99,9 +99,12 @@ last_of w = (end_of w - 1) / w.record_size
 abbrev pub taken_in : Write → (front back : List ℕ) → (index : ℕ) → List ℕ
 taken_in w front back index = if index == first_of w then front else (if index == last_of w then back else [])
 
--- how many groups of 32 blocks, each under one node, are touched
+-- how many groups of 32 blocks, each under one node, have bytes from one place up to another
+abbrev pub groups_touched : (record_size from end : ℕ) → ℕ
+groups_touched record_size from end = (end - 1) / record_size / 32 + 1 - from / record_size / 32
+
 abbrev pub count_groups : Write → ℕ
-count_groups w = last_of w / 32 + 1 - first_of w / 32
+count_groups w = groups_touched w.record_size w.from (end_of w)
 
 -- how many calls of a shelf read what a write takes over at most: those over a block and those over the first block
 -- of each further group, of each the block and the nodes over it

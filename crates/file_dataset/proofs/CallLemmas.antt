@@ -67,8 +67,8 @@ module _ (key : KeyValue) (hmac_key : List ℕ) (head : ℕ) (kind : Kind) (old 
       → files_in key (honest.blocks ++ (sealed_texts key old.salts e.change.texts ++ nodes)) (later_log key old.salts honest.blocks old.log head table.block kind e)
       table.block (head_spot head) ≡ Some (change all)
 
-  changed_by : {X : Type 0} (edit : List (List ℕ) → Table → Result Edit Refusal) (change : Files → Files) (numbers : List ℕ) (answer : ℕ → X) (x : X)
-      (new : FamilyState) → Makes edit change → is_ok (new_place old head) ≡ true → Edits kind key hmac_key head edit numbers answer (Ok x) old new
+  changed_by : {X : Type 0} {cost : Table → ℕ} (edit : List (List ℕ) → Table → Result Edit Refusal) (change : Files → Files) (numbers : List ℕ) (answer : ℕ → X) (x : X)
+      (new : FamilyState) → Makes edit change → is_ok (new_place old head) ≡ true → Edits kind key hmac_key head edit cost numbers answer (Ok x) old new
       → ChangesFiles key change (head_spot head) old new
   unfolding files
   changed_by {X = X} edit change numbers answer x new makes place edits = rw honest.placed (by_files (files_in key honest.blocks old.log old.block (head_spot head)) refl)
@@ -126,8 +126,8 @@ module _ (key : KeyValue) (hmac_key : List ℕ) (head : ℕ) (kind : Kind) (old 
 
 module _ {X : Type 0} (key : KeyValue) (hmac_key : List ℕ) (head : ℕ) (kind : Kind) (name numbers : List ℕ) (answer : ℕ → X) (old new : FamilyState)
     (kept : IsFamily old) (sizes : HasToldSizes old.shelf) (place : is_ok (new_place old head) ≡ true) where
-  pub write_files : (from : ℕ) (bytes : List ℕ) (result : Result X Stop)
-      → Edits kind key hmac_key head (write_edit key hmac_key name from bytes) numbers answer result old new
+  pub write_files : {cost : Table → ℕ} (from : ℕ) (bytes : List ℕ) (result : Result X Stop)
+      → Edits kind key hmac_key head (write_edit key hmac_key name from bytes) cost numbers answer result old new
       → IsHonest old → OnOk result (ChangesFiles key (written name from bytes) (head_spot head) old new)
   write_files from bytes (Err stop) edits honest = tt
   write_files from bytes (Ok x) edits honest =
@@ -135,7 +135,7 @@ module _ {X : Type 0} (key : KeyValue) (hmac_key : List ℕ) (head : ℕ) (kind 
       (λ table e all nodes tells lengths form is has. files_written key hmac_key old.salts honest.blocks nodes old.log head table kind tells lengths form honest.bytes all has e
       name from bytes (wrote key hmac_key name from bytes honest.blocks table e is)) place edits
 
-  pub cut_files : (to : ℕ) (result : Result X Stop) → Edits kind key hmac_key head (cut_edit key hmac_key name to) numbers answer result old new
+  pub cut_files : {cost : Table → ℕ} (to : ℕ) (result : Result X Stop) → Edits kind key hmac_key head (cut_edit key hmac_key name to) cost numbers answer result old new
       → IsHonest old → OnOk result (ChangesFiles key (cut name to) (head_spot head) old new)
   cut_files to (Err stop) edits honest = tt
   cut_files to (Ok x) edits honest =
@@ -143,7 +143,7 @@ module _ {X : Type 0} (key : KeyValue) (hmac_key : List ℕ) (head : ℕ) (kind 
       (λ table e all nodes tells lengths form is has. files_cut key hmac_key old.salts honest.blocks nodes old.log head table kind tells lengths form honest.bytes all has e
       name to (is_cut key hmac_key name to honest.blocks table e is)) place edits
 
-  pub make_files : (result : Result X Stop) → file_fault name ≡ None → Edits kind key hmac_key head (make_edit key hmac_key name) numbers answer result old new
+  pub make_files : {cost : Table → ℕ} (result : Result X Stop) → file_fault name ≡ None → Edits kind key hmac_key head (make_edit key hmac_key name) cost numbers answer result old new
       → IsHonest old → OnOk result (ChangesFiles key (touched name) (head_spot head) old new)
   make_files (Err stop) sound edits honest = tt
   make_files (Ok x) sound edits honest =
@@ -151,7 +151,7 @@ module _ {X : Type 0} (key : KeyValue) (hmac_key : List ℕ) (head : ℕ) (kind 
       (λ table e all nodes tells lengths form is has. files_made key hmac_key old.salts honest.blocks nodes old.log head table kind tells lengths form honest.bytes all
       (files_parts key honest.blocks old.log table.block (head_spot head) all has) name e sound (made_file key hmac_key name honest.blocks table e is)) place edits
 
-  pub remove_files : (result : Result X Stop) → Edits kind key hmac_key head (remove_edit key hmac_key name) numbers answer result old new
+  pub remove_files : {cost : Table → ℕ} (result : Result X Stop) → Edits kind key hmac_key head (remove_edit key hmac_key name) cost numbers answer result old new
       → IsHonest old → OnOk result (ChangesFiles key (removed name) (head_spot head) old new)
   remove_files (Err stop) edits honest = tt
   remove_files (Ok x) edits honest =

@@ -191,10 +191,10 @@ module _ (kind : Kind) (key : KeyValue) (hmac_key : List ℕ) (head : ℕ) (edit
   by_entry P mid result before old new (inr memory) answered none = subst P (sym memory.0) none
 
   -- the work on a head, and its entry
-  pub edits_ended : (mid : Result Made Halt) (result : Result Wrote Stop) (before : ℕ × ℕ) (old between new : FamilyState) → HasNoFault numbers
+  pub edits_ended : {cost : Table → ℕ} (mid : Result Made Halt) (result : Result Wrote Stop) (before : ℕ × ℕ) (old between new : FamilyState) → HasNoFault numbers
       → is_ok (new_place old head) ≡ true → before.0 ≡ old.salts.made → before.1 ≡ length old.shelf.sizes
-      → Works kind key hmac_key head edit numbers mid old between → IsEnded head before mid result between new
-      → Edits kind key hmac_key head edit numbers (wrote_by old.salts) result old new
+      → Works kind key hmac_key head edit cost numbers mid old between → IsEnded head before mid result between new
+      → Edits kind key hmac_key head edit cost numbers (wrote_by old.salts) result old new
   edits_ended mid result before old between new none place draws_before puts_before works ended =
       let entry : IsEnded head (old.salts.made, length old.shelf.sizes) mid result (used works.calls works.put works.draws old) new =
       subst (λ (family : FamilyState). IsEnded head (old.salts.made, length old.shelf.sizes) mid result family new) works.left
@@ -203,6 +203,7 @@ module _ (kind : Kind) (key : KeyValue) (hmac_key : List ℕ) (head : ℕ) (edit
         calls = works.calls;
         put = works.put;
         draws = works.draws;
+        bound = works.bound;
         left = by_left entry;
         fault = by_entry (TellsFault (fails_within works.calls old.shelf.armed)) mid result _ _ new entry
             (entered_fault (fails_within works.calls old.shelf.armed) mid none works.among works.fault) tt;
@@ -231,13 +232,14 @@ module _ (kind : Kind) (key : KeyValue) (hmac_key : List ℕ) (head : ℕ) (edit
 
   -- ---- a call that isn't begun
 
-  edits_unready : {X : Type 0} (answer : ℕ → X) (stop : Stop) (old : FamilyState)
+  edits_unready : {X : Type 0} {cost : Table → ℕ} (answer : ℕ → X) (stop : Stop) (old : FamilyState)
       → list_any (λ number. number == 27) numbers ≡ true → list_any (λ number. number == 34) numbers ≡ true
-      → IsStopAt (new_place old head) stop → Edits {X = X} kind key hmac_key head edit numbers answer (Err stop) old old
+      → IsStopAt (new_place old head) stop → Edits {X = X} kind key hmac_key head edit cost numbers answer (Err stop) old old
   edits_unready {X = X} answer stop old full gone at = record {
     calls = 0;
     put = [];
     draws = 0;
+    bound = omega arith;
     left = by_left stop at;
     fault = by_fault stop at;
     among = by_among stop at;
@@ -286,22 +288,23 @@ module _ (kind : Kind) (key : KeyValue) (hmac_key : List ℕ) (head : ℕ) (edit
           (inl refl, inr (inl fails))
       by_ended held stops.NoMemory at = inl refl
 
-  pub edits_passed : {X : Type 0} (answer : ℕ → X) (result : Result X Stop) (stop : Stop) (old : FamilyState)
+  pub edits_passed : {X : Type 0} {cost : Table → ℕ} (answer : ℕ → X) (result : Result X Stop) (stop : Stop) (old : FamilyState)
       → list_any (λ number. number == 27) numbers ≡ true → list_any (λ number. number == 34) numbers ≡ true
       → IsErr result × IsErrAnd result (λ e. e ≡ stop) → IsStopAt (new_place old head) stop
-      → Edits {X = X} kind key hmac_key head edit numbers answer result old old
-  edits_passed {X = X} answer result stop old full gone passes at =
-      passed_on (λ (r : Result X Stop). Edits {X = X} kind key hmac_key head edit numbers answer r old old) result stop passes
+      → Edits {X = X} kind key hmac_key head edit cost numbers answer result old old
+  edits_passed {X = X} {cost = cost} answer result stop old full gone passes at =
+      passed_on (λ (r : Result X Stop). Edits {X = X} kind key hmac_key head edit cost numbers answer r old old) result stop passes
       (edits_unready answer stop old full gone at)
 
   -- ---- a call that answers nothing
 
-  pub edits_nothing : (answer : ℕ → Wrote) (wrote : Wrote) (old new : FamilyState) → Edits kind key hmac_key head edit numbers answer (Ok wrote) old new
-      → Edits {X = Unit {0}} kind key hmac_key head edit numbers (λ draws. tt) (Ok tt) old new
+  pub edits_nothing : {cost : Table → ℕ} (answer : ℕ → Wrote) (wrote : Wrote) (old new : FamilyState) → Edits kind key hmac_key head edit cost numbers answer (Ok wrote) old new
+      → Edits {X = Unit {0}} kind key hmac_key head edit cost numbers (λ draws. tt) (Ok tt) old new
   edits_nothing answer wrote old new is = record {
     calls = is.calls;
     put = is.put;
     draws = is.draws;
+    bound = is.bound;
     left = is.left;
     fault = is.fault;
     among = tt;
@@ -330,12 +333,13 @@ module _ (kind : Kind) (key : KeyValue) (hmac_key : List ℕ) (head : ℕ) (edit
   stop_ended X Y held put rest draws (stops.Refused why) old spent new is = is
   stop_ended X Y held put rest draws stops.NoMemory old spent new is = is
 
-  pub edits_stopped : (answer : ℕ → Wrote) (stop : Stop) (old new : FamilyState) → Edits kind key hmac_key head edit numbers answer (Err stop) old new
-      → Edits {X = Unit {0}} kind key hmac_key head edit numbers (λ draws. tt) (Err stop) old new
+  pub edits_stopped : {cost : Table → ℕ} (answer : ℕ → Wrote) (stop : Stop) (old new : FamilyState) → Edits kind key hmac_key head edit cost numbers answer (Err stop) old new
+      → Edits {X = Unit {0}} kind key hmac_key head edit cost numbers (λ draws. tt) (Err stop) old new
   edits_stopped answer stop old new is = record {
     calls = is.calls;
     put = is.put;
     draws = is.draws;
+    bound = is.bound;
     left = stop_left Wrote (Unit {0}) is.draws (length is.put) stop (used is.calls is.put is.draws old) new is.left;
     fault = stop_fault Wrote (Unit {0}) (fails_within is.calls old.shelf.armed) stop is.fault;
     among = is.among;

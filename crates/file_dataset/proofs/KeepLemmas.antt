@@ -112,16 +112,16 @@ keeps_used key spot calls draws put old new keeps =
 
 -- ---- a call
 
-pub edits_keep_others : {X : Type 0} (kind : Kind) (key : KeyValue) (hmac_key : List ℕ) (head : ℕ) (edit : List (List ℕ) → Table → Result Edit Refusal)
+pub edits_keep_others : {X : Type 0} {cost : Table → ℕ} (kind : Kind) (key : KeyValue) (hmac_key : List ℕ) (head : ℕ) (edit : List (List ℕ) → Table → Result Edit Refusal)
     (numbers : List ℕ) (answer : ℕ → X) (result : Result X Stop) (old new : FamilyState)
-    → Edits kind key hmac_key head edit numbers answer result old new → KeepsOthers key head old new
+    → Edits kind key hmac_key head edit cost numbers answer result old new → KeepsOthers key head old new
 edits_keep_others kind key hmac_key head edit numbers answer result old new edits = λ spot other.
     keeps_used key spot edits.calls edits.draws edits.put old new
     (leaves_others hmac_key head edits.draws (length edits.put) result (used edits.calls edits.put edits.draws old) new spot edits.left other)
 
-pub refused_edits_keep : {X : Type 0} (kind : Kind) (key : KeyValue) (hmac_key : List ℕ) (head : ℕ) (edit : List (List ℕ) → Table → Result Edit Refusal)
+pub refused_edits_keep : {X : Type 0} {cost : Table → ℕ} (kind : Kind) (key : KeyValue) (hmac_key : List ℕ) (head : ℕ) (edit : List (List ℕ) → Table → Result Edit Refusal)
     (numbers : List ℕ) (answer : ℕ → X) (result : Result X Stop) (old new : FamilyState)
-    → Edits kind key hmac_key head edit numbers answer result old new → OnErr result (KeepsFiles key (head_spot head) old new)
+    → Edits kind key hmac_key head edit cost numbers answer result old new → OnErr result (KeepsFiles key (head_spot head) old new)
 refused_edits_keep kind key hmac_key head edit numbers answer (Ok x) old new edits = tt
 refused_edits_keep {X = X} kind key hmac_key head edit numbers answer (Err stop) old new edits =
     keeps_used key (head_spot head) edits.calls edits.draws edits.put old new

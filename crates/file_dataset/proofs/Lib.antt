@@ -29,6 +29,7 @@ pub mod NoSaltsLemmas
 pub mod OpenedLemmas
 pub mod TrialLemmas
 pub mod WorkLemmas
+pub mod CallCounts
 pub mod SealedLemmas
 pub mod FormLemmas
 pub mod LengthLemmas

@@ -13,13 +13,13 @@ use Rattle.file_blocks.specs.Objects.{Reading}
 use Rattle.file_blocks.proofs.Composing.{leaving_unread, told_unread}
 use Rattle.file_dataset.proofs.NoteLemmas.{for_each}
 
-no_reading : (s : ShelfState) → Reading {X = Unit {0}} 0 (λ failed. ⊤) (Err NoMemory) s s
-no_reading s = record { calls = 0; bound = omega arith; after = refl; fault = refl; failure = tt }
+no_reading : (reads : ℕ) (s : ShelfState) → Reading {X = Unit {0}} reads (λ failed. ⊤) (Err NoMemory) s s
+no_reading reads s = record { calls = 0; bound = omega arith; after = refl; fault = refl; failure = tt }
 
-pub leaving_none : {X : Type 0} (most : ℕ) (old new : FamilyState) → new ≡ old
-    → Leaving {X = X} most (Err (Stopped NoMemory)) old.shelf new.shelf old.salts new.salts
-leaving_none most old new same =
-    rw same (leaving_unread {Y = Unit {0}} 0 most (λ failed. ⊤) NoMemory old.shelf old.shelf old.salts (no_reading old.shelf))
+pub leaving_none : {X : Type 0} (most reads : ℕ) (old new : FamilyState) → new ≡ old
+    → Leaving {X = X} most reads (Err (Stopped NoMemory)) old.shelf new.shelf old.salts new.salts
+leaving_none most reads old new same =
+    rw same (leaving_unread {Y = Unit {0}} reads most (λ failed. ⊤) NoMemory old.shelf old.shelf old.salts (no_reading reads old.shelf))
 
 pub told_none : {X : Type 0} (object : X → Object) (key : KeyValue) (change : (held : List (List ℕ)) → Result Change MacError)
     (old new : FamilyState) → new ≡ old
@@ -27,5 +27,5 @@ pub told_none : {X : Type 0} (object : X → Object) (key : KeyValue) (change : 
     (λ held. Changed {X = X} object key held (change held) (Err (Stopped NoMemory)) old.shelf new.shelf old.salts new.salts)
 told_none object key change old new same =
     rw same
-    (told_unread {Y = Unit {0}} object key change 0 (λ failed. ⊤) NoMemory old.shelf old.shelf old.salts (no_reading old.shelf)
+    (told_unread {Y = Unit {0}} object key change 0 (λ failed. ⊤) NoMemory old.shelf old.shelf old.salts (no_reading 0 old.shelf)
     (for_each old.shelf.held (λ held. tt)))

@@ -1,8 +1,9 @@
 -- A change whose blocks were sealed, over plain variables.
-use Rattle.std.proofs.Common.{◌≡◌, ℕ, ◌+◌, Bool, true, false, List, [], ◌∷◌, ◌++◌, length, refl, sym, ap, subst, ◌∙◌, inl, inr, arith, Option, Some, None, Result, Ok, Err}
+use Rattle.std.proofs.Common.{◌≡◌, ℕ, ◌+◌, ◌≤◌, Bool, true, false, List, [], ◌∷◌, ◌++◌, length, refl, sym, ap, subst, ◌∙◌, inl, inr, arith, Option, Some, None, Result, Ok, Err}
 use Rattle.std.specs.Prelude.{IfSome, IfOk, IfErr, IsOk, ◌==◌}
 use Rattle.std.specs.List.{list_any}
-use Rattle.std.specs.Option.{option_map_or}
+use Rattle.std.specs.Option.{option_map, option_map_or}
+use Rattle.std.proofs.lemmas.List.{append_cancel_left}
 use Rattle.std.specs.Result.{result_map_both}
 use Rattle.dataset_tree.specs.declared.refusal.Refusal.{Refusal}
 use Rattle.dataset_tree.specs.declared.refusal.Refusal.TheVariants as refusals
@@ -15,6 +16,7 @@ use Rattle.indirect_macs.specs.declared.refs.MacError.{MacError}
 use Rattle.indirect_macs.specs.declared.refs.MacError.TheVariants as mac_error
 use Rattle.indirect_macs.specs.Calls.{fails_within}
 use Rattle.indirect_macs.specs.Replaced.{with_blocks}
+use Rattle.indirect_macs.proofs.Walking.{held_kept}
 use Rattle.family_log.specs.declared.table.Table.{Table}
 use Rattle.family_log.specs.declared.table.TableRow.{TableRow}
 use Rattle.family_log.specs.declared.entry.HeadChange.{HeadChange}
@@ -26,7 +28,7 @@ use Rattle.file_blocks.specs.declared.change.Wrote.{Wrote as Sealed}
 use Rattle.file_blocks.specs.declared.object.Object.{Object}
 use Rattle.file_blocks.specs.declared.write_error.WriteError.{WriteError}
 use Rattle.file_blocks.specs.declared.write_error.WriteError.TheVariants as write_error
-use Rattle.file_blocks.specs.Changes.{AreDraws, Change, ChangeEnded, Changed, HasDraws, Leaves, Leaving, after_draws, all_puts, count_in, is_shelf_fault, last_number}
+use Rattle.file_blocks.specs.Changes.{AreDraws, Change, ChangeEnded, Changed, HasDraws, Leaves, Leaving, after_draws, all_puts, calls_of, count_in, is_shelf_fault, last_number}
 use Rattle.file_blocks.specs.Objects.{IsObject}
 use Rattle.file_blocks.specs.Outcomes.{IsNoted, IsWrote}
 use Rattle.file_dataset.specs.declared.edit.Draft.{Draft}
@@ -40,6 +42,7 @@ use Rattle.file_dataset.specs.Changes.{Edit, change_by, edit_draws, edit_puts, i
 use Rattle.file_dataset.specs.ChangeSteps.{HasMade, IsDraft, IsMadeOf, IsToldWork, WorkEnded, Works, halt_at}
 use Rattle.file_dataset.specs.Reads.{in_object}
 use Rattle.file_dataset.specs.Steps.{IsOneHalt, is_fault}
+use Rattle.file_dataset.proofs.CallCounts.{calls_more}
 
 -- an edit that gives one object new blocks
 abbrev pub edit_at : (object : ℕ) → (rows : List TableRow) → (other : Option LengthAt) → Change → Edit
@@ -93,6 +96,15 @@ module _ (object : ℕ) (rows : List TableRow) (other : Option LengthAt) where
   edit_is_ok (Err failed) is = is
 
 -- ---- a failure
+
+-- of two accounts of what was put on a shelf that tells, both have the same blocks
+same_put : (calls further : ℕ) (put other held : List (List ℕ)) (s t : ShelfState) → s.held ≡ Some held → t ≡ after_calls calls (with_blocks put s)
+    → t ≡ after_calls further (with_blocks other s) → put ≡ other
+same_put calls further put other held s t tells one two =
+    let by_one = ap (λ (state : ShelfState). state.held) one ∙ held_kept calls (with_blocks put s) ∙ ap (option_map (λ before. before ++ put)) tells in
+    let by_two = ap (λ (state : ShelfState). state.held) two ∙ held_kept further (with_blocks other s) ∙ ap (option_map (λ before. before ++ other)) tells in
+    let same : Some (held ++ put) ≡ Some (held ++ other) = sym by_one ∙ by_two in
+    append_cancel_left held put other (cc)
 
 module _ (kind : Kind) (key : KeyValue) (hmac_key : List ℕ) (head : ℕ) (edit : (held : List (List ℕ)) → Table → Result Edit Refusal)
     (object : ℕ) (rows : List TableRow) (other : Option LengthAt) (change : (held : List (List ℕ)) → Result Change MacError)
@@ -263,26 +275,30 @@ module _ (kind : Kind) (key : KeyValue) (hmac_key : List ℕ) (head : ℕ) (edit
       (makes sealed made drafted.made wrote.object, drafted.made.2 ∙ rw (count, wrote.number) refl)
 
   -- the whole
-  pub works_sealed : (numbers : List ℕ) (most record_size new_length : ℕ) (draft : Draft) (sealed : Result Sealed WriteError) (result : Result Made Halt)
+  pub works_sealed : {cost : Table → ℕ} (numbers : List ℕ) (most reads record_size new_length : ℕ) (draft : Draft) (sealed : Result Sealed WriteError) (result : Result Made Halt)
       → HasSealStops numbers → IsThere → IsEditIn → MakesEdits record_size draft → new ≡ record old { salts = new.salts; shelf = new.shelf }
-      → Leaving most sealed old.shelf new.shelf old.salts new.salts → IfSome old.shelf.held (λ held. TellsChange held sealed)
+      → reads + calls_of most ≤ cost table → Leaving most reads sealed old.shelf new.shelf old.salts new.salts → IfSome old.shelf.held (λ held. TellsChange held sealed)
       → IfOk sealed (λ wrote. IfSome old.shelf.held (λ held. IsNoted key old.salts (length old.shelf.sizes) (change held) wrote))
       → IfOk sealed (IsWrote record_size new_length old.salts new.salts) → Drafted draft sealed result
-      → Works kind key hmac_key head edit numbers result old new
-  works_sealed numbers most record_size new_length draft sealed result listed there is makes left leaving told noted wrote drafted =
+      → Works kind key hmac_key head edit cost numbers result old new
+  works_sealed {cost = cost} numbers most reads record_size new_length draft sealed result listed there is makes left within leaving told noted wrote drafted =
       by_held old.shelf.held refl told noted
     where
       spent : (calls draws : ℕ) (put : List (List ℕ)) → new.shelf ≡ after_calls calls (with_blocks put old.shelf) → new.salts ≡ after_draws draws old.salts
           → new ≡ used calls put draws old
       spent calls draws put shelf salts = left ∙ (λ i. record old { salts = salts i; shelf = shelf i })
 
+      few_calls : leaving.calls ≤ option_map_or cost (table_of (head_spot head) old.heads) 0
+      few_calls = rw there (omega (arith, leaving.within, calls_more leaving.count most leaving.few, within))
+
       by_held : (o : Option (List (List ℕ))) → old.shelf.held ≡ o → IfSome o (λ held. TellsChange held sealed)
           → IfOk sealed (λ wrote. IfSome o (λ held. IsNoted key old.salts (length old.shelf.sizes) (change held) wrote))
-          → Works kind key hmac_key head edit numbers result old new
+          → Works kind key hmac_key head edit cost numbers result old new
       by_held None untold told noted = record {
         calls = leaving.calls;
         put = leaving.put;
         draws = leaving.draws;
+        bound = few_calls;
         left = spent leaving.calls leaving.draws leaving.put leaving.after leaving.drawn;
         fault = sealed_fault draft sealed result drafted ∙ leaving.fault;
         among = sealed_among numbers draft sealed result listed drafted;
@@ -290,11 +306,14 @@ module _ (kind : Kind) (key : KeyValue) (hmac_key : List ℕ) (head : ℕ) (edit
         told = rw untold tt;
       }
       by_held (Some held) is_told c noted = record {
-        calls = c.calls;
+        calls = leaving.calls;
         put = c.put;
         draws = c.draws;
-        left = spent c.calls c.draws c.put c.after c.drawn;
-        fault = sealed_fault draft sealed result drafted ∙ c.fault;
+        bound = few_calls;
+        left =
+            let one : leaving.put ≡ c.put = same_put leaving.calls c.calls leaving.put c.put held old.shelf new.shelf is_told leaving.after c.after in
+            spent leaving.calls c.draws c.put (leaving.after ∙ ap (λ (put : List (List ℕ)). after_calls leaving.calls (with_blocks put old.shelf)) one) c.drawn;
+        fault = sealed_fault draft sealed result drafted ∙ leaving.fault;
         among = sealed_among numbers draft sealed result listed drafted;
         made = sealed_made record_size new_length c.draws draft sealed result makes drafted wrote c.drawn;
         told =

@@ -422,19 +422,19 @@ there_before : {X : Type 0} (spot : Spot) (x : X) (old new : FamilyState) (next 
 there_before spot x old new next (Ok at) before = refl
 there_before spot x old new next (Err why) before = absurd before.refused
 
-told_edit : {X : Type 0} (kind : Kind) (key : KeyValue) (hmac_key : List ℕ) (head : ℕ) (edit : List (List ℕ) → Table → Result Edit Refusal)
+told_edit : {X : Type 0} {cost : Table → ℕ} (kind : Kind) (key : KeyValue) (hmac_key : List ℕ) (head : ℕ) (edit : List (List ℕ) → Table → Result Edit Refusal)
     (numbers : List ℕ) (answer : ℕ → X) (result : Result X Stop) (old new : FamilyState) → IsSteady old
-    → (edits : Edits kind key hmac_key head edit numbers answer result old new)
+    → (edits : Edits kind key hmac_key head edit cost numbers answer result old new)
     → IsToldEdit kind key hmac_key head (held_by old.shelf) (edit (held_by old.shelf)) edits.put edits.draws result old
     (used edits.calls edits.put edits.draws old) new
 told_edit kind key hmac_key head edit numbers answer result old new steady edits =
     told_at (λ (held : List (List ℕ)). IsToldEdit kind key hmac_key head held (edit held) edits.put edits.draws result old
     (used edits.calls edits.put edits.draws old) new) old.shelf.held steady.held edits.told
 
-pub edit_called : {X : Type 0} (kind : Kind) (key : KeyValue) (hmac_key : List ℕ) (end head : ℕ)
+pub edit_called : {X : Type 0} {cost : Table → ℕ} (kind : Kind) (key : KeyValue) (hmac_key : List ℕ) (end head : ℕ)
     (edit : List (List ℕ) → Table → Result Edit Refusal) (numbers : List ℕ) (answer : ℕ → X) (result : Result X Stop)
     (old new : FamilyState) → IsSteady old → HasToldSizes new.shelf
-    → Edits kind key hmac_key head edit numbers answer result old new
+    → Edits kind key hmac_key head edit cost numbers answer result old new
     → IfErr (refused_edit hmac_key end head old) (IsRefusedBefore (head_spot head) result old new)
     → IsCalled (λ x. x) result new (called_edit kind key hmac_key head edit answer old)
 edit_called kind key hmac_key end head edit numbers answer (Ok x) old new steady sizes edits before =

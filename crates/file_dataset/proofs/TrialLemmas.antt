@@ -40,8 +40,8 @@ left_guid hmac_key head draws puts (Err (stops.Refused why)) spent new left =
     ap (λ (family : FamilyState). family.guid) left ∙ chosen (is_err (new_place spent head)) spent _ spent.guid refl refl
 left_guid hmac_key head draws puts (Err stops.NoMemory) spent new left = ap (λ (family : FamilyState). family.guid) left
 
-pub guid_changed : {X : Type 0} (kind : Kind) (key : KeyValue) (hmac_key : List ℕ) (head : ℕ)
+pub guid_changed : {X : Type 0} {cost : Table → ℕ} (kind : Kind) (key : KeyValue) (hmac_key : List ℕ) (head : ℕ)
     (edit : (held : List (List ℕ)) → Table → Result Edit Refusal) (numbers : List ℕ) (answer : ℕ → X) (result : Result X Stop)
-    (old new : FamilyState) → Edits kind key hmac_key head edit numbers answer result old new → old.guid ≡ 1 → new.guid ≡ 1
+    (old new : FamilyState) → Edits kind key hmac_key head edit cost numbers answer result old new → old.guid ≡ 1 → new.guid ≡ 1
 guid_changed kind key hmac_key head edit numbers answer result old new edits is =
     left_guid hmac_key head edits.draws _ result _ new edits.left ∙ is

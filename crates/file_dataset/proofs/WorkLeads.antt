@@ -91,8 +91,8 @@ module _ (key : KeyValue) (hmac_key : List ℕ) (head : ℕ) (kind : Kind) (old 
       → HoldsBytes (puts_in key old.salts honest.blocks (length honest.blocks) e.change)
 
   -- so is what of it was put, and the family stays on an honest shelf
-  pub works_honest : (edit : List (List ℕ) → Table → Result Edit Refusal) (numbers : List ℕ) (result : Result Made Halt) (new : FamilyState) → PutsBytes edit
-      → Works kind key hmac_key head edit numbers result old new → IsHonest new
+  pub works_honest : {cost : Table → ℕ} (edit : List (List ℕ) → Table → Result Edit Refusal) (numbers : List ℕ) (result : Result Made Halt) (new : FamilyState) → PutsBytes edit
+      → Works kind key hmac_key head edit cost numbers result old new → IsHonest new
   works_honest edit numbers result new puts works =
       honest_used works.calls works.draws works.put old new honest (holds_front works.put told.rest (subst HoldsBytes (sym told.parts) (all_bytes (table_of spot old.heads) refl))) works.left
     where
@@ -117,8 +117,8 @@ module _ (key : KeyValue) (hmac_key : List ℕ) (head : ℕ) (kind : Kind) (old 
       → length honest.blocks + length (puts_in key old.salts honest.blocks (length honest.blocks) e.change) ≤ 2 ^ 64
       → (0 < table.block) × Leads key old.salts honest.blocks old.log head table e
 
-  pub works_lead : (edit : List (List ℕ) → Table → Result Edit Refusal) (numbers : List ℕ) (made : Made) (new : FamilyState) → EditLeads edit
-      → length new.shelf.sizes < 2 ^ 64 → Works kind key hmac_key head edit numbers (Ok made) old new → LeadsAsLogged new head made.change
+  pub works_lead : {cost : Table → ℕ} (edit : List (List ℕ) → Table → Result Edit Refusal) (numbers : List ℕ) (made : Made) (new : FamilyState) → EditLeads edit
+      → length new.shelf.sizes < 2 ^ 64 → Works kind key hmac_key head edit cost numbers (Ok made) old new → LeadsAsLogged new head made.change
   works_lead edit numbers made new leads few works = rw held (subst (λ (f : HeadChange). TellsTheLog (honest.blocks ++ works.put) (new.log ++ f.entry ∷ []) spot f.table) (sym change) behind)
     where
       told : IsToldWork kind key hmac_key head honest.blocks (edit honest.blocks) works.put works.draws (Ok made) old new
@@ -278,10 +278,10 @@ only_directory old spot table entries one directory other two =
 abbrev pub LeadsThen : (head : ℕ) → (old new : FamilyState) → Made → Type 0
 LeadsThen head old new made = IsHonest old → HasToldSizes old.shelf → length new.shelf.sizes < 2 ^ 64 → LeadsAsLogged new head made.change
 
-pub works_leads : (key : KeyValue) (hmac_key : List ℕ) (head : ℕ) (kind : Kind) (old new : FamilyState) (edit : List (List ℕ) → Table → Result Edit Refusal)
+pub works_leads : {cost : Table → ℕ} (key : KeyValue) (hmac_key : List ℕ) (head : ℕ) (kind : Kind) (old new : FamilyState) (edit : List (List ℕ) → Table → Result Edit Refusal)
     (numbers : List ℕ) (result : Result Made Halt)
     → ((honest : IsHonest old) (sizes : HasToldSizes old.shelf) → EditLeads key hmac_key head kind old honest sizes edit)
-    → Works kind key hmac_key head edit numbers result old new → IfOk result (LeadsThen head old new)
+    → Works kind key hmac_key head edit cost numbers result old new → IfOk result (LeadsThen head old new)
 works_leads key hmac_key head kind old new edit numbers (Err halt) leads works = tt
 works_leads key hmac_key head kind old new edit numbers (Ok made) leads works = λ honest sizes few.
     works_lead key hmac_key head kind old honest sizes edit numbers made new (leads honest sizes) few works
@@ -303,9 +303,9 @@ leads_behind sees answer most hmac_key place reading head old between new (Ok ma
 -- ---- a call
 
 -- what was used of the family before its entry, and the entry, leave it on an honest shelf
-pub call_honest : (key : KeyValue) (hmac_key : List ℕ) (head : ℕ) (kind : Kind) (old between new : FamilyState) (edit : List (List ℕ) → Table → Result Edit Refusal)
+pub call_honest : {cost : Table → ℕ} (key : KeyValue) (hmac_key : List ℕ) (head : ℕ) (kind : Kind) (old between new : FamilyState) (edit : List (List ℕ) → Table → Result Edit Refusal)
     (numbers : List ℕ) (note : Spot) (answer : Result Made Halt) (sizes : HasToldSizes old.shelf)
-    → ((honest : IsHonest old) → PutsBytes key hmac_key head kind old honest sizes edit) → Works kind key hmac_key head edit numbers answer old between
+    → ((honest : IsHonest old) → PutsBytes key hmac_key head kind old honest sizes edit) → Works kind key hmac_key head edit cost numbers answer old between
     → IfOk answer (LeadsThen head old between) → note ≡ head_spot head → length between.shelf.sizes < 2 ^ 64
     → (IsHonest between → IfOk answer (λ made. LeadsAsLogged between note.head made.change) → IsHonest new) → IsHonest old → IsHonest new
 call_honest key hmac_key head kind old between new edit numbers note answer sizes puts works leads copy room ended honest =

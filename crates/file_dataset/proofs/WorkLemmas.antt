@@ -1,5 +1,5 @@
 -- A change of a head before its entry, over plain variables.
-use Rattle.std.proofs.Common.{◌≡◌, ℕ, ◌+◌, Bool, true, false, List, [], ◌∷◌, ◌++◌, length, refl, sym, ap, subst, ◌∙◌, inl, inr, arith, Option, Some, None, Result, Ok, Err}
+use Rattle.std.proofs.Common.{◌≡◌, ◌≤◌, ℕ, ◌+◌, Bool, true, false, List, [], ◌∷◌, ◌++◌, length, refl, sym, ap, subst, ◌∙◌, inl, inr, arith, Option, Some, None, Result, Ok, Err}
 use Rattle.std.specs.Prelude.{IfSome, IfOk, IfErr, IsOk}
 use Rattle.std.specs.Option.{option_map_or}
 use Rattle.dataset_tree.specs.declared.refusal.Refusal.{Refusal}
@@ -24,7 +24,7 @@ use Rattle.file_dataset.specs.declared.edit.Made.{Made}
 use Rattle.file_dataset.specs.declared.halt.Halt.{Halt}
 use Rattle.file_dataset.specs.declared.halt.Halt.TheVariants as halts
 use Rattle.file_dataset.specs.declared.kind.Kind.{Kind}
-use Rattle.file_dataset.specs.Calls.{by_table}
+use Rattle.file_dataset.specs.Calls.{by_table, calls_for}
 use Rattle.file_dataset.specs.ChangeCalls.{DrawsForAll, IsCause, IsEditOf, used, wrote_by}
 use Rattle.file_dataset.specs.Changes.{Edit, change_by, edit_draws, edit_puts}
 use Rattle.file_dataset.specs.ChangeSteps.{HasMade, IsToldWork, WorkEnded, Works}
@@ -59,6 +59,19 @@ by_refused : {Y Z : Type 0} (answer : Table → Result Y Refusal) (edit : Table 
 by_refused answer edit None why passes is = let same : refusals.NoSnapshot ≡ why = cc in rw same refl
 by_refused answer edit (Some table) why passes is = passes table is
 
+-- ---- how many calls are made
+
+-- a reading, and what comes behind it
+more_calls : (most rest : Table → ℕ) (calls : ℕ) (table : Option Table) → calls ≤ calls_for (option_map_or most table 0)
+    → calls ≤ option_map_or (λ t. calls_for (most t) + rest t) table 0
+more_calls most rest calls None few = omega (arith, few)
+more_calls most rest calls (Some table) few = omega (arith, few)
+
+both_calls : (most rest : Table → ℕ) (calls further : ℕ) (table : Option Table) → calls ≤ calls_for (option_map_or most table 0)
+    → further ≤ option_map_or rest table 0 → calls + further ≤ option_map_or (λ t. calls_for (most t) + rest t) table 0
+both_calls most rest calls further None few less = omega (arith, few, less)
+both_calls most rest calls further (Some table) few less = omega (arith, few, less)
+
 module _ (kind : Kind) (key : KeyValue) (hmac_key : List ℕ) (head : ℕ) (edit : (held : List (List ℕ)) → Table → Result Edit Refusal)
     (numbers : List ℕ) where
   unread_ended : {X Y : Type 0} (sees : X → Y) (answer : (held : List (List ℕ)) → Table → Result Y Refusal) (halt : Halt) (old new : FamilyState)
@@ -72,15 +85,16 @@ module _ (kind : Kind) (key : KeyValue) (hmac_key : List ℕ) (head : ℕ) (edit
   unread_ended sees answer halts.NoMemory old new held rest passes finds = inl refl
 
   -- a reading that a change begins with ends it
-  pub works_unread : {X Y : Type 0} (sees : X → Y) (answer : (held : List (List ℕ)) → Table → Result Y Refusal) (most : Table → ℕ) (halt : Halt)
+  pub works_unread : {X Y : Type 0} (rest : Table → ℕ) (sees : X → Y) (answer : (held : List (List ℕ)) → Table → Result Y Refusal) (most : Table → ℕ) (halt : Halt)
       (old new : FamilyState) → Visits {X = X} sees answer most hmac_key (head_spot head) (Err halt) old new → IsOneHalt numbers halt
       → ((held : List (List ℕ)) (table : Table) (why : Refusal) → answer held table ≡ Err why → edit held table ≡ Err why)
-      → Works kind key hmac_key head edit numbers (Err halt) old new
-  works_unread {X = X} sees answer most halt old new visits among passes =
+      → Works kind key hmac_key head edit (λ table. calls_for (most table) + rest table) numbers (Err halt) old new
+  works_unread {X = X} rest sees answer most halt old new visits among passes =
       record {
         calls = visits.walked.calls;
         put = [];
         draws = 0;
+        bound = more_calls most rest visits.walked.calls (table_of (head_spot head) old.heads) visits.walked.bound;
         left = walked_used visits.walked.calls old new new.shelf visits.left visits.walked.after;
         fault = halted_alike Made X halt ∙ visits.walked.fault;
         among = among;
@@ -167,28 +181,29 @@ module _ (kind : Kind) (key : KeyValue) (hmac_key : List ℕ) (head : ℕ) (edit
   after_edited draws (Err halt) old t is = tt
 
   -- what is made of what was read is what the whole makes
-  pub works_after : {X Y : Type 0} (sees : X → Y) (answer : (held : List (List ℕ)) → Table → Result Y Refusal) (most : Table → ℕ)
+  pub works_after : {X Y : Type 0} {inner_cost : Table → ℕ} (sees : X → Y) (answer : (held : List (List ℕ)) → Table → Result Y Refusal) (most : Table → ℕ)
       (inner : (held : List (List ℕ)) → Table → Result Edit Refusal) (x : X) (table : Table) (result : Result Made Halt)
       (old between new : FamilyState) → Visits sees answer most hmac_key (head_spot head) (Ok x) old between
       → table_of (head_spot head) old.heads ≡ Some table
       → ((held : List (List ℕ)) → answer held table ≡ Ok (sees x) → edit held table ≡ inner held table)
-      → Works kind key hmac_key head inner numbers result between new
-      → Works kind key hmac_key head edit numbers result old new
-  works_after sees answer most inner x table result old between new visits found same works =
-      behind visits.walked.calls (visits.left ∙ ap (λ (shelf : ShelfState). with_shelf shelf old) visits.walked.after)
+      → Works kind key hmac_key head inner inner_cost numbers result between new
+      → Works kind key hmac_key head edit (λ table. calls_for (most table) + inner_cost table) numbers result old new
+  works_after {inner_cost = inner_cost} sees answer most inner x table result old between new visits found same works =
+      behind visits.walked.calls visits.walked.bound (visits.left ∙ ap (λ (shelf : ShelfState). with_shelf shelf old) visits.walked.after)
       (sym visits.walked.fault) visits.told works
     where
-      behind : (n : ℕ) → between ≡ with_shelf (after_calls n old.shelf) old → fails_within n old.shelf.armed ≡ false
+      behind : (n : ℕ) → n ≤ calls_for (option_map_or most (table_of (head_spot head) old.heads) 0) → between ≡ with_shelf (after_calls n old.shelf) old → fails_within n old.shelf.armed ≡ false
           → IfSome old.shelf.held (λ held. Finds sees (by_table (answer held) old (head_spot head)) (Ok x))
-          → Works kind key hmac_key head inner numbers result between new
-          → Works kind key hmac_key head edit numbers result old new
-      behind n is quiet finds works =
-          let w : Works kind key hmac_key head inner numbers result (with_shelf (after_calls n old.shelf) old) new =
-          subst (λ (family : FamilyState). Works kind key hmac_key head inner numbers result family new) is works in
+          → Works kind key hmac_key head inner inner_cost numbers result between new
+          → Works kind key hmac_key head edit (λ table. calls_for (most table) + inner_cost table) numbers result old new
+      behind n few is quiet finds works =
+          let w : Works kind key hmac_key head inner inner_cost numbers result (with_shelf (after_calls n old.shelf) old) new =
+          subst (λ (family : FamilyState). Works kind key hmac_key head inner inner_cost numbers result family new) is works in
           record {
             calls = n + w.calls;
             put = w.put;
             draws = w.draws;
+            bound = both_calls most inner_cost n w.calls (table_of (head_spot head) old.heads) few w.bound;
             left = w.left ∙ after_used n w.calls w.draws w.put old;
             fault = w.fault ∙ sym (fails_more n w.calls old.shelf quiet);
             among = w.among;
@@ -214,13 +229,14 @@ module _ (kind : Kind) (key : KeyValue) (hmac_key : List ℕ) (head : ℕ) (edit
   halted_ended halts.ShelfFault old held rest fails = inl refl
   halted_ended halts.NoMemory old held rest fails = inl refl
 
-  works_halted : (halt : Halt) (old : FamilyState) → IsOneHalt numbers halt → is_fault {X = Made} (Err halt) ≡ false
+  works_halted : {cost : Table → ℕ} (halt : Halt) (old : FamilyState) → IsOneHalt numbers halt → is_fault {X = Made} (Err halt) ≡ false
       → ((held : List (List ℕ)) (why : Refusal) → halt ≡ halts.Refused why → by_table (edit held) old (head_spot head) ≡ Err why)
-      → Works kind key hmac_key head edit numbers (Err halt) old old
+      → Works kind key hmac_key head edit cost numbers (Err halt) old old
   works_halted halt old among quiet fails = record {
     calls = 0;
     put = [];
     draws = 0;
+    bound = omega arith;
     left = walked_used 0 old old old.shelf refl refl;
     fault = quiet;
     among = among;
@@ -236,15 +252,15 @@ module _ (kind : Kind) (key : KeyValue) (hmac_key : List ℕ) (head : ℕ) (edit
   }
 
   -- memory ran out before anything was put
-  pub works_none : (halt : Halt) (old : FamilyState) → halt ≡ halts.NoMemory → Works kind key hmac_key head edit numbers (Err halt) old old
-  works_none halt old is =
-      subst (λ (h : Halt). Works kind key hmac_key head edit numbers (Err h) old old) (sym is)
+  pub works_none : {cost : Table → ℕ} (halt : Halt) (old : FamilyState) → halt ≡ halts.NoMemory → Works kind key hmac_key head edit cost numbers (Err halt) old old
+  works_none {cost = cost} halt old is =
+      subst (λ (h : Halt). Works kind key hmac_key head edit cost numbers (Err h) old old) (sym is)
       (works_halted halts.NoMemory old tt refl (λ held why same. absurd (cc)))
 
   -- the head can't be changed so
-  pub works_refused : (why : Refusal) (old : FamilyState) → IsOneHalt numbers (halts.Refused why)
+  pub works_refused : {cost : Table → ℕ} (why : Refusal) (old : FamilyState) → IsOneHalt numbers (halts.Refused why)
       → ((held : List (List ℕ)) → by_table (edit held) old (head_spot head) ≡ Err why)
-      → Works kind key hmac_key head edit numbers (Err (halts.Refused why)) old old
+      → Works kind key hmac_key head edit cost numbers (Err (halts.Refused why)) old old
   works_refused why old among fails =
       works_halted (halts.Refused why) old among refl
       (λ held other same. let e : why ≡ other = cc in subst (λ (w : Refusal). by_table (edit held) old (head_spot head) ≡ Err w) e (fails held))

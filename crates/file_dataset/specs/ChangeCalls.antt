@@ -1,5 +1,5 @@
 -- What the calls that change a head answer and leave.
-use Rattle.std.specs.Prelude.{ℕ, ◌+◌, ◌<◌, ◌≡◌, ◌⊎◌, ◌==◌, min, nat_lt, true, if◌then◌else◌, List, [], ◌∷◌, ◌++◌, length, Some, Result, Ok, Err, IsOk, IfErr, IfOk, IfSome, is_err, ⊤}
+use Rattle.std.specs.Prelude.{ℕ, ◌+◌, ◌*◌, ◌<◌, ◌≤◌, ◌≡◌, ◌⊎◌, ◌==◌, min, nat_lt, true, if◌then◌else◌, List, [], ◌∷◌, ◌++◌, length, Some, Result, Ok, Err, IsOk, IfErr, IfOk, IfSome, is_err, ⊤}
 use Rattle.std.specs.List.{list_any}
 use Rattle.std.specs.Option.{option_map_or}
 use Rattle.dataset_tree.specs.declared.refusal.Refusal.{Refusal}
@@ -20,11 +20,13 @@ use Rattle.family_log.specs.declared.entry.LogEntry.TheVariants as entries
 use Rattle.family_log.specs.Log.{head_spot}
 use Rattle.family_log.specs.Model.{FamilyState, table_of}
 use Rattle.family_log.specs.Calls.{IsChangeOf, new_place, with_change, with_entry}
-use Rattle.file_blocks.specs.Changes.{AreDraws, HasDraws, after_draws, last_number}
+use Rattle.file_blocks.specs.Changes.{AreDraws, HasDraws, after_draws, calls_of, last_number}
+use Rattle.file_blocks.specs.Objects.{count_touched}
+use Rattle.file_blocks.specs.Writes.{groups_touched}
 use Rattle.file_dataset.specs.declared.kind.Kind.{Kind}
 use Rattle.file_dataset.specs.declared.limits.TheConstants.{MAX_LENGTH, MAX_PUTS}
 use Rattle.file_dataset.specs.declared.wrote.Wrote.{Wrote}
-use Rattle.file_dataset.specs.Calls.{TellsFault, answered_at, tested_portable}
+use Rattle.file_dataset.specs.Calls.{TellsFault, answered_at, calls_for, directory_blocks, tested_portable}
 use Rattle.file_dataset.specs.Changes.{Edit, change_by, edit_draws, edit_puts}
 use Rattle.file_dataset.specs.Portable.{portable}
 use Rattle.file_dataset.specs.Reads.{then_read}
@@ -81,6 +83,26 @@ write_stops = 21 ∷ 23 ∷ 24 ∷ 27 ∷ 34 ∷ 38 ∷ []
 
 abbrev pub remove_stops : List ℕ
 remove_stops = 21 ∷ 24 ∷ 27 ∷ 34 ∷ 38 ∷ []
+
+-- ---- how many calls of the shelf are made
+
+-- where the blocks that hold the bytes from one place up to another get new texts, in an object of so many levels: for
+-- the old texts of two of them, the nodes over each group of 32, the new texts and the nodes over them
+abbrev pub write_calls : (levels record_size from end : ℕ) → ℕ
+write_calls levels record_size from end =
+    (levels + 1) * (groups_touched record_size from end + 1) + calls_of (count_touched record_size from end)
+
+-- where the directory is read, and then written anew, as into an object without bytes: it has 70656 at most
+abbrev pub directory_calls : Table → ℕ
+directory_calls table = calls_for (directory_blocks table) + write_calls 1 table.block 0 70656
+
+-- where the directory is read, and then a file is written from one place up to another
+abbrev pub file_calls : (from end : ℕ) → Table → ℕ
+file_calls from end table = calls_for (directory_blocks table) + write_calls 5 table.block from end
+
+-- and where one block of a file is cut
+abbrev pub cut_calls : Table → ℕ
+cut_calls table = calls_for (directory_blocks table) + (6 + calls_of 1)
 
 -- ---- where the shelf tells what it holds
 
@@ -144,13 +166,15 @@ pub record IsToldEdit {X : Type 0} (kind : Kind) (key : KeyValue) (hmac_key : Li
 
 -- ---- a call
 
--- what a call that changes a head leaves, and what it answers for so many draws
+-- what a call that changes a head leaves, which made so many calls of the shelf at most by the head's table, and what
+-- it answers for so many draws
 pub record Edits {X : Type 0} (kind : Kind) (key : KeyValue) (hmac_key : List ℕ) (head : ℕ)
-    (edit : (held : List (List ℕ)) → Table → Result Edit Refusal) (numbers : List ℕ) (answer : ℕ → X)
-    (result : Result X Stop) (old new : FamilyState) : Type 0 where
+    (edit : (held : List (List ℕ)) → Table → Result Edit Refusal) (most : Table → ℕ) (numbers : List ℕ)
+    (answer : ℕ → X) (result : Result X Stop) (old new : FamilyState) : Type 0 where
   pub calls : ℕ
   pub put : List (List ℕ)
   pub draws : ℕ
+  pub bound : calls ≤ option_map_or most (table_of (head_spot head) old.heads) 0
   pub left : LeavesHead hmac_key head draws (length put) result (used calls put draws old) new
   pub fault : TellsFault (fails_within calls old.shelf.armed) result
   pub among : IfErr result (IsOneOf numbers)

@@ -1,5 +1,5 @@
 -- What the steps of a call that changes a head answer and leave, before its entry.
-use Rattle.std.specs.Prelude.{ℕ, ◌-◌, ◌≡◌, ◌⊎◌, min, List, [], ◌∷◌, ◌++◌, length, Option, Some, None, Result, Ok, Err, IfErr, IfOk, IfSome}
+use Rattle.std.specs.Prelude.{ℕ, ◌-◌, ◌≤◌, ◌≡◌, ◌⊎◌, min, List, [], ◌∷◌, ◌++◌, length, Option, Some, None, Result, Ok, Err, IfErr, IfOk, IfSome}
 use Rattle.std.specs.Option.{option_map_or}
 use Rattle.std.specs.Result.{result_map_both}
 use Rattle.dataset_tree.specs.declared.refusal.Refusal.{Refusal}
@@ -96,13 +96,15 @@ pub record IsToldWork (kind : Kind) (key : KeyValue) (hmac_key : List ℕ) (head
   pub counted : AreDraws (edit_draws (by_table edit old (head_spot head))) (length put) draws
   pub ended : WorkEnded kind key hmac_key head held edit put rest draws result old new
 
--- a change of a head of a family, before its entry: of the family draws, blocks and calls were used alone
+-- a change of a head of a family, before its entry: of the family draws, blocks and calls were used alone, of these
+-- so many at most by the head's table
 pub record Works (kind : Kind) (key : KeyValue) (hmac_key : List ℕ) (head : ℕ)
-    (edit : (held : List (List ℕ)) → Table → Result Edit Refusal) (numbers : List ℕ) (result : Result Made Halt)
-    (old new : FamilyState) : Type 0 where
+    (edit : (held : List (List ℕ)) → Table → Result Edit Refusal) (most : Table → ℕ) (numbers : List ℕ)
+    (result : Result Made Halt) (old new : FamilyState) : Type 0 where
   pub calls : ℕ
   pub put : List (List ℕ)
   pub draws : ℕ
+  pub bound : calls ≤ option_map_or most (table_of (head_spot head) old.heads) 0
   pub left : new ≡ used calls put draws old
   pub fault : is_fault result ≡ fails_within calls old.shelf.armed
   pub among : IfErr result (IsOneHalt numbers)

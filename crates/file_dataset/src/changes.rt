@@ -4,7 +4,7 @@ ghost use Rattle.family_log.specs.Honest.{IsHonest};
 ghost use Rattle.family_log.specs.Log.{head_spot};
 ghost use Rattle.file_dataset.specs.declared.kind.Kind.TheVariants as kinds;
 ghost use Rattle.file_dataset.specs.Calls.{IsRefusedBefore, block_key_of};
-ghost use Rattle.file_dataset.specs.ChangeCalls.{Edits, make_stops, refused_edit, remove_stops, write_stops, wrote_by};
+ghost use Rattle.file_dataset.specs.ChangeCalls.{Edits, cut_calls, directory_calls, file_calls, make_stops, refused_edit, remove_stops, write_stops, wrote_by};
 ghost use Rattle.file_dataset.specs.Changes.{cut_edit, make_edit, remove_edit, write_edit};
 ghost use Rattle.file_dataset.specs.Edits.{cut, removed, touched, written};
 ghost use Rattle.file_dataset.specs.Files.{ChangesFiles, KeepsFiles, KeepsOthers};
@@ -42,7 +42,7 @@ pub fn make_file<B: Shelf>(
 ) -> Result<(), Stop>
     requires { fam.old.guid ≡ key.now.guid }
     ensures edits { Edits kinds.Make (block_key_of key.now) key.now.hmac head
-        (make_edit (block_key_of key.now) key.now.hmac name.now) make_stops (λ _. tt) result fam.old fam.new }
+        (make_edit (block_key_of key.now) key.now.hmac name.now) directory_calls make_stops (λ _. tt) result fam.old fam.new }
     ensures before { IfErr (refused_edit key.now.hmac 0 head fam.old)
         (IsRefusedBefore (head_spot head) result fam.old fam.new) }
     ensures honest { IsHonest fam.old → IsHonest fam.new }
@@ -81,8 +81,8 @@ pub fn write_at<B: Shelf>(
 ) -> Result<Wrote, Stop>
     requires { fam.old.guid ≡ key.now.guid }
     ensures edits { Edits kinds.Write (block_key_of key.now) key.now.hmac head
-        (write_edit (block_key_of key.now) key.now.hmac name.now from bytes.now) write_stops (wrote_by fam.old.salts)
-        result fam.old fam.new }
+        (write_edit (block_key_of key.now) key.now.hmac name.now from bytes.now)
+        (file_calls from (from + length bytes.now)) write_stops (wrote_by fam.old.salts) result fam.old fam.new }
     ensures before { IfErr (refused_edit key.now.hmac (from + length bytes.now) head fam.old)
         (IsRefusedBefore (head_spot head) result fam.old fam.new) }
     ensures honest { IsHonest fam.old → IsHonest fam.new }
@@ -113,7 +113,7 @@ pub fn cut<B: Shelf>(
 ) -> Result<(), Stop>
     requires { fam.old.guid ≡ key.now.guid }
     ensures edits { Edits kinds.Cut (block_key_of key.now) key.now.hmac head
-        (cut_edit (block_key_of key.now) key.now.hmac name.now to) write_stops (λ _. tt) result fam.old fam.new }
+        (cut_edit (block_key_of key.now) key.now.hmac name.now to) cut_calls write_stops (λ _. tt) result fam.old fam.new }
     ensures before { IfErr (refused_edit key.now.hmac to head fam.old)
         (IsRefusedBefore (head_spot head) result fam.old fam.new) }
     ensures honest { IsHonest fam.old → IsHonest fam.new }
@@ -145,7 +145,7 @@ pub fn remove_file<B: Shelf>(
 ) -> Result<(), Stop>
     requires { fam.old.guid ≡ key.now.guid }
     ensures edits { Edits kinds.Remove (block_key_of key.now) key.now.hmac head
-        (remove_edit (block_key_of key.now) key.now.hmac name.now) remove_stops (λ _. tt) result fam.old fam.new }
+        (remove_edit (block_key_of key.now) key.now.hmac name.now) directory_calls remove_stops (λ _. tt) result fam.old fam.new }
     ensures before { IfErr (refused_edit key.now.hmac 0 head fam.old)
         (IsRefusedBefore (head_spot head) result fam.old fam.new) }
     ensures honest { IsHonest fam.old → IsHonest fam.new }

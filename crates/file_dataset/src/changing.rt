@@ -9,12 +9,12 @@ ghost use Rattle.family_log.specs.Log.{head_spot};
 ghost use Rattle.file_directory.specs.Entries.{directory_text, object_named};
 ghost use Rattle.file_directory.specs.Form.{IsDirectory, objects_of};
 ghost use Rattle.file_dataset.specs.declared.kind.Kind.TheVariants as kinds;
-ghost use Rattle.file_dataset.specs.ChangeCalls.{make_stops, remove_stops, tested_edit, tested_end, write_stops};
+ghost use Rattle.file_dataset.specs.ChangeCalls.{cut_calls, directory_calls, file_calls, make_stops, remove_stops, tested_edit, tested_end, write_calls, write_stops};
 ghost use Rattle.file_blocks.specs.Changes.{Changed, Leaving};
 ghost use Rattle.file_blocks.specs.Objects.{count_touched};
 ghost use Rattle.file_blocks.specs.Outcomes.{IsNoted, IsWrote};
 ghost use Rattle.file_blocks.specs.WriteFields.{write_to};
-ghost use Rattle.file_blocks.specs.Writes.{change_of_write};
+ghost use Rattle.file_blocks.specs.Writes.{change_of_write, reads_of};
 ghost use Rattle.file_dataset.specs.Changes.{cut_edit, empty_object, empty_row, made_in, make_edit, make_fault, remove_edit, removed_in, without_row, write_edit};
 ghost use Rattle.file_dataset.specs.ChangeSteps.{IsDraft, IsMadeOf, IsUnused, Works, halt_at};
 ghost use Rattle.file_dataset.specs.declared.halt.Halt.TheVariants as halts;
@@ -167,7 +167,8 @@ fn directory_anew<K: BlockKey, B: Shelf>(
     requires record_size { IsRecordSize block }
     requires few { length (directory_text directory.now) ≤ 70656 }
     ensures left { fam.new ≡ record fam.old { salts = fam.new.salts; shelf = fam.new.shelf } }
-    ensures leaving { Leaving (count_touched block 0 (length (directory_text directory.now))) result
+    ensures leaving { Leaving (count_touched block 0 (length (directory_text directory.now)))
+        (reads_of (write_to empty_object block 0 (directory_text directory.now))) result
         fam.old.shelf fam.new.shelf fam.old.salts fam.new.salts }
     ensures told { IfSome fam.old.shelf.held (λ held. Changed (λ wrote. wrote.object) (K.told key.now) held
         (change_of_write (K.told key.now) held (write_to empty_object block 0 (directory_text directory.now))) result
@@ -233,7 +234,7 @@ pub(crate) fn make_in_head<K: BlockKey, B: Shelf>(
 ) -> Result<Made, Halt>
     requires there { is_ok (new_place fam.old head) ≡ true }
     ensures works { Works kinds.Make (K.told key.now) hmac.now head (make_edit (K.told key.now) hmac.now name.now)
-        make_stops result fam.old fam.new }
+        directory_calls make_stops result fam.old fam.new }
     ensures before { IfErr (by_table (tested_edit hmac.now 0) fam.old (head_spot head))
         (IsUnused result fam.old fam.new) }
     ensures leads { IfOk result (λ made. IsHonest fam.old → HasToldSizes fam.old.shelf
@@ -263,7 +264,8 @@ fn make_opened<K: BlockKey, B: Shelf>(
     requires directory { IsDirectory (objects_of table.now) directory }
     requires fault { make_fault table.now name.now directory ≡ None }
     ensures works { Works kinds.Make (K.told key.now) hmac.now head
-        (λ held of_head. made_in (K.told key.now) held of_head name.now directory) make_stops result fam.old fam.new }
+        (λ held of_head. made_in (K.told key.now) held of_head name.now directory)
+        (λ of_head. write_calls 1 of_head.block 0 70656) make_stops result fam.old fam.new }
     ensures leads { IfOk result (λ made. IsHonest fam.old → HasToldSizes fam.old.shelf
         → length fam.new.shelf.sizes < 2 ^ 64 → LeadsAsLogged fam.new head made.change) }
 {
@@ -292,7 +294,7 @@ pub(crate) fn remove_in_head<K: BlockKey, B: Shelf>(
 ) -> Result<Made, Halt>
     requires there { is_ok (new_place fam.old head) ≡ true }
     ensures works { Works kinds.Remove (K.told key.now) hmac.now head (remove_edit (K.told key.now) hmac.now name.now)
-        remove_stops result fam.old fam.new }
+        directory_calls remove_stops result fam.old fam.new }
     ensures before { IfErr (by_table (tested_edit hmac.now 0) fam.old (head_spot head))
         (IsUnused result fam.old fam.new) }
     ensures leads { IfOk result (λ made. IsHonest fam.old → HasToldSizes fam.old.shelf
@@ -323,8 +325,8 @@ fn remove_opened<K: BlockKey, B: Shelf>(
     requires directory { IsDirectory (objects_of table.now) directory }
     requires object { object_named name.now directory ≡ Some object }
     ensures works { Works kinds.Remove (K.told key.now) hmac.now head
-        (λ held of_head. removed_in (K.told key.now) held of_head name.now directory) remove_stops result
-        fam.old fam.new }
+        (λ held of_head. removed_in (K.told key.now) held of_head name.now directory)
+        (λ of_head. write_calls 1 of_head.block 0 70656) remove_stops result fam.old fam.new }
     ensures leads { IfOk result (λ made. IsHonest fam.old → HasToldSizes fam.old.shelf
         → length fam.new.shelf.sizes < 2 ^ 64 → LeadsAsLogged fam.new head made.change) }
 {
@@ -384,7 +386,8 @@ pub(crate) fn write_in_head<K: BlockKey, B: Shelf>(
 ) -> Result<Made, Halt>
     requires there { is_ok (new_place fam.old head) ≡ true }
     ensures works { Works kinds.Write (K.told key.now) hmac.now head
-        (write_edit (K.told key.now) hmac.now name.now from bytes.now) write_stops result fam.old fam.new }
+        (write_edit (K.told key.now) hmac.now name.now from bytes.now)
+        (file_calls from (from + length bytes.now)) write_stops result fam.old fam.new }
     ensures before { IfErr (by_table (tested_edit hmac.now (from + length bytes.now)) fam.old (head_spot head))
         (IsUnused result fam.old fam.new) }
     ensures leads { IfOk result (λ made. IsHonest fam.old → HasToldSizes fam.old.shelf
@@ -417,7 +420,7 @@ pub(crate) fn cut_in_head<K: BlockKey, B: Shelf>(
 ) -> Result<Made, Halt>
     requires there { is_ok (new_place fam.old head) ≡ true }
     ensures works { Works kinds.Cut (K.told key.now) hmac.now head (cut_edit (K.told key.now) hmac.now name.now to)
-        write_stops result fam.old fam.new }
+        cut_calls write_stops result fam.old fam.new }
     ensures before { IfErr (by_table (tested_edit hmac.now to) fam.old (head_spot head))
         (IsUnused result fam.old fam.new) }
     ensures leads { IfOk result (λ made. IsHonest fam.old → HasToldSizes fam.old.shelf

@@ -1,5 +1,5 @@
 // Laws of the definitions. The functions do nothing.
-ghost use Rattle.std.specs.Prelude.{◌≡◌, ◌+◌, ◌<◌, ◌≤◌, ℕ, List, Err, None, Ok, Some, drop, map, min, take};
+ghost use Rattle.std.specs.Prelude.{◌≡◌, ◌+◌, ◌<◌, ◌≤◌, ◌∷◌, ℕ, List, [], Err, None, Ok, Some, drop, map, min, take};
 ghost use Rattle.dataset_tree.specs.declared.refusal.Refusal.{Refusal};
 ghost use Rattle.dataset_tree.specs.declared.refusal.Refusal.TheVariants as refusals;
 ghost use Rattle.block_crypt.specs.Blocks.{KeyValue};
@@ -9,6 +9,8 @@ ghost use Rattle.family_log.specs.declared.table.TableRow.{TableRow};
 ghost use Rattle.family_log.specs.Model.{FamilyState};
 ghost use Rattle.file_blocks.specs.Objects.{count_touched, first_touched};
 ghost use Rattle.file_blocks.specs.Places.{FailsFirst};
+ghost use Rattle.indirect_macs.specs.declared.refs.ObjTree.{ObjTree};
+ghost use Rattle.file_dataset.specs.ChangeCalls.{cut_calls, directory_calls, file_calls, write_calls};
 ghost use Rattle.file_dataset.specs.Least.{IsFirstFailing};
 ghost use Rattle.file_dataset.specs.Edits.{Files, bytes_of};
 ghost use Rattle.file_dataset.specs.Files.{ShowsFiles, file_length};
@@ -46,4 +48,17 @@ pub fn reads_give_the_files()
     ensures names { (key : KeyValue) (hmac_key : List ℕ) (family : FamilyState) (spot : Spot) (held : List (List ℕ))
         (table : Table) (shown : Files) → ShowsFiles key hmac_key family spot held table shown
         → plain_names key hmac_key held table ≡ Ok (map file_length shown) }
+{}
+
+/// Worked values of how many calls of the shelf are made at most: where one block of an object of one level gets a new
+/// text, and where the last block of a group and the first of the next do in one of five levels; and in a head whose
+/// directory has two blocks where a file is made or removed, one block of a file is written, and a file is cut.
+pub fn bounds_by_hand()
+    ensures one { write_calls 1 512 0 512 ≡ 26 }
+    ensures groups { write_calls 5 4096 126976 135168 ≡ 41 }
+    ensures calls { (table : Table) (tree : ObjTree)
+        → let of_head : Table = record table {
+          block = 512;
+          rows = record { object = 1; length = 600; tree = tree } ∷ [];
+        } in (directory_calls of_head ≡ 191) × (file_calls 0 512 of_head ≡ 46) × (cut_calls of_head ≡ 40) }
 {}

@@ -35,7 +35,7 @@ pub use changes::{cut, make_file, remove_file, write_at};
 pub use command::FileCmd;
 pub use file::FileRow;
 pub use files_laws::files_begin_empty_and_go_on;
-pub use laws::{ranges_name_the_first_place_that_fails, reads_give_the_files};
+pub use laws::{bounds_by_hand, ranges_name_the_first_place_that_fails, reads_give_the_files};
 pub use lists::{FileBytes, FileRows};
 pub use portable::fresh_portable;
 pub use reply::FileReply;

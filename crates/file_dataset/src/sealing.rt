@@ -5,7 +5,7 @@ ghost use Rattle.file_blocks.specs.Changes.{Changed, Leaving};
 ghost use Rattle.file_blocks.specs.Objects.{IsObject, count_touched};
 ghost use Rattle.file_blocks.specs.Outcomes.{IsNoted, IsWrote};
 ghost use Rattle.file_blocks.specs.WriteFields.{write_to};
-ghost use Rattle.file_blocks.specs.Writes.{change_of_cut, change_of_write};
+ghost use Rattle.file_blocks.specs.Writes.{change_of_cut, change_of_write, reads_of};
 ghost use Rattle.file_dataset.specs.ChangeSteps.{halt_at};
 
 use crate::halt::{Halt, halt_in};
@@ -47,7 +47,8 @@ pub(crate) fn write_object<K: BlockKey, B: Shelf>(
     requires object { IsObject block object.now }
     requires end { from + length bytes.now ≤ 4294967296 }
     ensures left { fam.new ≡ record fam.old { salts = fam.new.salts; shelf = fam.new.shelf } }
-    ensures leaving { Leaving (count_touched block from (from + length bytes.now)) result
+    ensures leaving { Leaving (count_touched block from (from + length bytes.now))
+        (reads_of (write_to object.now block from bytes.now)) result
         fam.old.shelf fam.new.shelf fam.old.salts fam.new.salts }
     ensures told { IfSome fam.old.shelf.held (λ held. Changed (λ wrote. wrote.object) (K.told key.now) held
         (change_of_write (K.told key.now) held (write_to object.now block from bytes.now)) result
@@ -88,7 +89,7 @@ pub(crate) fn cut_object<K: BlockKey, B: Shelf>(
     requires object { IsObject block object.now }
     requires end { to ≤ 4294967296 }
     ensures left { fam.new ≡ record fam.old { salts = fam.new.salts; shelf = fam.new.shelf } }
-    ensures leaving { Leaving 1 result fam.old.shelf fam.new.shelf fam.old.salts fam.new.salts }
+    ensures leaving { Leaving 1 (object.now.tree.levels + 1) result fam.old.shelf fam.new.shelf fam.old.salts fam.new.salts }
     ensures told { IfSome fam.old.shelf.held (λ held. Changed (λ wrote. wrote.object) (K.told key.now) held
         (change_of_cut (K.told key.now) held block object.now to) result
         fam.old.shelf fam.new.shelf fam.old.salts fam.new.salts) }

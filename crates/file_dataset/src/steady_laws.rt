@@ -33,9 +33,9 @@ pub fn steady_families_determine_calls<X, Y>()
         → IfSome old.shelf.held (λ held. Answers sees (answered_at (answer held) old spot) result)
         → IsCalled sees result new (called_read answer spot old) }
     ensures edits { (kind : Kind) (key : KeyValue) (hmac_key : List ℕ) (end head : ℕ)
-        (edit : List (List ℕ) → Table → Result Edit Refusal) (numbers : List ℕ) (answer : ℕ → X)
-        (result : Result X Stop) (old new : FamilyState) → IsSteady old → HasToldSizes new.shelf
-        → Edits kind key hmac_key head edit numbers answer result old new
+        (edit : List (List ℕ) → Table → Result Edit Refusal) (most : Table → ℕ) (numbers : List ℕ)
+        (answer : ℕ → X) (result : Result X Stop) (old new : FamilyState) → IsSteady old → HasToldSizes new.shelf
+        → Edits kind key hmac_key head edit most numbers answer result old new
         → IfErr (refused_edit hmac_key end head old) (IsRefusedBefore (head_spot head) result old new)
         → IsCalled (λ x. x) result new (called_edit kind key hmac_key head edit answer old) }
 {}

@@ -8,7 +8,7 @@ use Rattle.file_dataset.proofs.NoSaltsLemmas.{leaving_none, told_none}
 use Rattle.file_dataset.proofs.changing.directory_anew.Goals as goal
 
 pub returns-in_default-clause-leaving : goal.returns-in_default-clause-leaving
-returns-in_default-clause-leaving g c = leaving_none _ c.args.fam.now c.args.fam.now refl
+returns-in_default-clause-leaving g c = leaving_none _ _ c.args.fam.now c.args.fam.now refl
 
 pub returns-in_default-clause-told : goal.returns-in_default-clause-told
 returns-in_default-clause-told g c =

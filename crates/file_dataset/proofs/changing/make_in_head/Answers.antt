@@ -1,7 +1,7 @@
 use Rattle.std.proofs.Common.{◌≡◌, ap, refl, sym}
 use Rattle.file_dataset.specs.declared.kind.Kind.TheVariants as kinds
 use Rattle.file_dataset.specs.Calls.{directory_blocks}
-use Rattle.file_dataset.specs.ChangeCalls.{make_stops}
+use Rattle.file_dataset.specs.ChangeCalls.{make_stops, write_calls}
 use Rattle.file_dataset.specs.Changes.{made_in}
 use Rattle.file_dataset.specs.Reads.{held_directory}
 use Rattle.file_dataset.specs.Steps.{directory_stops}
@@ -12,7 +12,7 @@ use Rattle.file_dataset.proofs.changing.make_in_head.Goals as goal
 
 pub returns-in-Err-clause-works : goal.returns-in-Err-clause-works
 returns-in-Err-clause-works g c =
-    works_unread kinds.Make _ _ _ _ make_stops _ _ _ c.in-Err.halt c.args.fam.now c.opened_head.new.fam c.in-Err.ensures.visits
+    works_unread kinds.Make _ _ _ _ make_stops (λ table. write_calls 1 table.block 0 70656) _ _ _ c.in-Err.halt c.args.fam.now c.opened_head.new.fam c.in-Err.ensures.visits
     (among_more directory_stops make_stops c.in-Err.halt refl c.in-Err.ensures.among)
     (λ held table why is. make_unread _ c.args.hmac.now c.args.name.now held table why is)
 

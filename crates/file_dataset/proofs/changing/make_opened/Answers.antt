@@ -1,4 +1,4 @@
-use Rattle.std.proofs.Common.{◌≡◌, ◌+◌, ◌++◌, ◌∷◌, [], ℕ, List, Some, None, ap, refl, subst, ◌∙◌}
+use Rattle.std.proofs.Common.{◌≡◌, ◌≤◌, ◌+◌, ◌++◌, ◌∷◌, [], ℕ, List, length, Some, None, ap, refl, subst, ◌∙◌, arith}
 use Rattle.dataset_tree.specs.ShortNames.{file_fault}
 use Rattle.file_blocks.specs.WriteFields.{write_to}
 use Rattle.file_blocks.specs.Writes.{change_of_write}
@@ -9,6 +9,7 @@ use Rattle.file_dataset.specs.declared.halt.Halt.TheVariants as halts
 use Rattle.file_dataset.specs.declared.kind.Kind.TheVariants as kinds
 use Rattle.file_dataset.specs.ChangeCalls.{make_stops}
 use Rattle.file_dataset.specs.Changes.{empty_object, empty_row, greatest_object, made_in}
+use Rattle.file_dataset.proofs.CallCounts.{anew_few}
 use Rattle.file_dataset.proofs.LengthLemmas.{makes_edits}
 use Rattle.file_dataset.proofs.MakeLemmas.{make_shape, new_few, new_is_fresh, rows_of_make, was_ok}
 use Rattle.file_dataset.proofs.SealedLemmas.{works_sealed}
@@ -45,17 +46,22 @@ returns-clause-works g c =
     let greatest = c.greatest_object-object.ensures ∙ ap greatest_object c.as_slice.ensures in
     let wide = (size_bounds c.args.table.now.block c.requires.table.in_form.record_size).0 in
     let inserted = was_ok c.insert.result c.is_err.ensures.value c.if-is_err.false c.insert.ensures.inserted in
+    let named = subst (λ (text : List ℕ). file_fault text ≡ None) c.as_bytes-in_form.ensures.bytes c.as_bytes-in_form.ensures.in_form in
+    let few : length (directory_text c.insert.new.self) ≤ 70656 =
+    rw inserted (new_few c.args.table.now c.args.name.now c.args.directory k wide c.requires.table.in_form.form c.requires.directory c.requires.fault named greatest) in
     works_sealed kinds.Make _ _ _ _ 1 (c.args.table.now.rows ++ empty_row (c.greatest_object-object.result + 1) ∷ [])
     (Some (record { object = c.greatest_object-object.result + 1; length = Some 0 }))
     (λ held. change_of_write _ held (write_to empty_object c.args.table.now.block 0 (directory_text c.insert.new.self)))
-    c.args.table.now c.args.fam.now c.directory_anew-sealed.new.fam make_stops _ c.args.table.now.block _ c.in-Ok.draft c.directory_anew-sealed.result
+    c.args.table.now c.args.fam.now c.directory_anew-sealed.new.fam make_stops _ _ c.args.table.now.block _ c.in-Ok.draft c.directory_anew-sealed.result
     c.ended_draft.result (refl, refl) c.requires.table.found
     (λ held. make_shape c.args.table.now c.args.name.now c.args.directory c.greatest_object-object.result _ held c.insert.new.self c.requires.fault greatest inserted)
     (λ wrote made of_made form. makes_edits kinds.Make _ _ 1 (c.args.table.now.rows ++ empty_row (c.greatest_object-object.result + 1) ∷ [])
     (Some (record { object = c.greatest_object-object.result + 1; length = Some 0 })) c.args.table.now c.args.fam.now c.in-Ok.draft wide c.requires.table
     (rows_of_make c.args.table.now c.args.name.now c.args.directory c.greatest_object-object.result wide c.requires.table.in_form.form c.requires.fault greatest)
     c.in-Ok.ensures.draft wrote made of_made form)
-    c.directory_anew-sealed.ensures.left c.directory_anew-sealed.ensures.leaving c.directory_anew-sealed.ensures.told c.directory_anew-sealed.ensures.noted
+    c.directory_anew-sealed.ensures.left
+    (anew_few c.args.table.now.block (directory_text c.insert.new.self) (omega (arith, wide)) few)
+    c.directory_anew-sealed.ensures.leaving c.directory_anew-sealed.ensures.told c.directory_anew-sealed.ensures.noted
     c.directory_anew-sealed.ensures.wrote
     (record { of_draft = c.in-Ok.ensures.draft; made = c.ended_draft.ensures.made; failed = c.ended_draft.ensures.failed; stop = c.ended_draft.ensures.stop })
 

@@ -1,4 +1,4 @@
-use Rattle.std.proofs.Common.{◌≡◌, ℕ, List, Some, None, refl}
+use Rattle.std.proofs.Common.{◌≡◌, ◌≤◌, ℕ, List, length, Some, None, refl, arith}
 use Rattle.file_blocks.specs.WriteFields.{write_to}
 use Rattle.file_blocks.specs.Writes.{change_of_write}
 use Rattle.family_log.specs.Log.{head_spot}
@@ -6,6 +6,7 @@ use Rattle.file_directory.specs.Entries.{directory_text}
 use Rattle.file_dataset.specs.declared.kind.Kind.TheVariants as kinds
 use Rattle.file_dataset.specs.ChangeCalls.{remove_stops}
 use Rattle.file_dataset.specs.Changes.{empty_object, removed_in, without_row}
+use Rattle.file_dataset.proofs.CallCounts.{anew_few}
 use Rattle.file_dataset.proofs.LengthLemmas.{makes_edits}
 use Rattle.file_dataset.proofs.MakeLemmas.{remove_shape, removed_few, rows_of_remove}
 use Rattle.file_dataset.proofs.SealedLemmas.{works_sealed}
@@ -24,9 +25,11 @@ directory_anew-sealed-requires-clause-few g c =
 pub returns-clause-works : goal.returns-clause-works
 returns-clause-works g c =
     let wide = (size_bounds c.args.table.now.block c.requires.table.in_form.record_size).0 in
+    let few : length (directory_text c.remove.new.self) ≤ 70656 =
+    rw c.remove.ensures (removed_few c.args.table.now c.args.name.now c.args.directory c.args.object c.requires.table.in_form.form c.requires.directory) in
     works_sealed kinds.Remove _ _ _ _ 1 (without_row c.args.object c.args.table.now.rows) (Some (record { object = c.args.object; length = None }))
     (λ held. change_of_write _ held (write_to empty_object c.args.table.now.block 0 (directory_text c.remove.new.self)))
-    c.args.table.now c.args.fam.now c.directory_anew-sealed.new.fam remove_stops _ c.args.table.now.block _ c.in-Ok.draft c.directory_anew-sealed.result
+    c.args.table.now c.args.fam.now c.directory_anew-sealed.new.fam remove_stops _ _ c.args.table.now.block _ c.in-Ok.draft c.directory_anew-sealed.result
     c.ended_draft.result (refl, refl) c.requires.table.found
     (λ held. remove_shape c.args.table.now c.args.name.now c.args.directory c.args.object _ held c.remove.new.self c.requires.directory c.requires.object
     c.remove.ensures)
@@ -34,7 +37,9 @@ returns-clause-works g c =
     (Some (record { object = c.args.object; length = None })) c.args.table.now c.args.fam.now c.in-Ok.draft wide c.requires.table
     (rows_of_remove c.args.table.now c.args.name.now c.args.directory c.args.object c.requires.table.in_form.form c.requires.directory c.requires.object)
     c.in-Ok.ensures.draft wrote made of_made form)
-    c.directory_anew-sealed.ensures.left c.directory_anew-sealed.ensures.leaving c.directory_anew-sealed.ensures.told c.directory_anew-sealed.ensures.noted
+    c.directory_anew-sealed.ensures.left
+    (anew_few c.args.table.now.block (directory_text c.remove.new.self) (omega (arith, wide)) few)
+    c.directory_anew-sealed.ensures.leaving c.directory_anew-sealed.ensures.told c.directory_anew-sealed.ensures.noted
     c.directory_anew-sealed.ensures.wrote
     (record { of_draft = c.in-Ok.ensures.draft; made = c.ended_draft.ensures.made; failed = c.ended_draft.ensures.failed; stop = c.ended_draft.ensures.stop })
 

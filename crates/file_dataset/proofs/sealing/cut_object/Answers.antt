@@ -5,7 +5,7 @@ use Rattle.file_dataset.proofs.NoSaltsLemmas.{leaving_none, told_none}
 use Rattle.file_dataset.proofs.sealing.cut_object.Goals as goal
 
 pub returns-in_default-clause-leaving : goal.returns-in_default-clause-leaving
-returns-in_default-clause-leaving g c = leaving_none _ c.args.fam.now c.copied_salts.new.fam c.in_default.ensures.same
+returns-in_default-clause-leaving g c = leaving_none _ _ c.args.fam.now c.copied_salts.new.fam c.in_default.ensures.same
 
 pub returns-in_default-clause-told : goal.returns-in_default-clause-told
 returns-in_default-clause-told g c =

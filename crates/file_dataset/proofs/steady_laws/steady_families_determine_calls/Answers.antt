@@ -6,5 +6,5 @@ returns-clause-reads g c = λ sees answer most spot result old new steady reads 
     read_called sees answer most spot result old new steady reads told
 
 pub returns-clause-edits : goal.returns-clause-edits
-returns-clause-edits g c = λ kind key hmac_key end head edit numbers answer result old new steady sizes edits before.
+returns-clause-edits g c = λ kind key hmac_key end head edit most numbers answer result old new steady sizes edits before.
     edit_called kind key hmac_key end head edit numbers answer result old new steady sizes edits before
