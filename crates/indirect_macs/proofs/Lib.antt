@@ -8,6 +8,7 @@ pub mod FirstPlace
 pub mod Growth
 pub mod FoldOfTree
 pub mod TreeFold
+pub mod GroupWalks
 pub mod RunBounds
 pub mod RunFound
 pub mod RunMade

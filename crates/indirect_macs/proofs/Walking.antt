@@ -111,7 +111,7 @@ answers_go_on level index child result s m t above first rest =
 -- ---- the walk where its node fails
 
 -- by cases on whether the address names a node, and whether the call is due
-stops : {Y : Type 0} (named : Bool) (next : Result (Option NodeRef) MacError) (stop : MacError) (on : Option NodeRef → Result Y MacError) (more : Option NodeRef → ℕ) (s m : ShelfState)
+pub stops : {Y : Type 0} (named : Bool) (next : Result (Option NodeRef) MacError) (stop : MacError) (on : Option NodeRef → Result Y MacError) (more : Option NodeRef → ℕ) (s m : ShelfState)
     → Gave (if named then 1 else 0) next (Err stop) s m
     → Gave (if named then suc (goes_on more (λ _. 0) next) else 0) (goes_on on (λ failed. Err failed) next) (Err stop) s m
 stops false next stop on more s m gave =
@@ -143,12 +143,12 @@ walk_stops record_size index below node stop s m first =
 -- ---- the walk where its node passes
 
 -- the reference of a place whose address names no node leads nowhere
-next_unnamed : (held : List (List ℕ)) (record_size index level : ℕ) (node : NodeRef) → names_node (map length held) level node.addr ≡ false
+pub next_unnamed : (held : List (List ℕ)) (record_size index level : ℕ) (node : NodeRef) → names_node (map length held) level node.addr ≡ false
     → next_node held record_size index level node ≡ Err (fails_at level index)
 unfolding next_node
 next_unnamed held record_size index level node other = rw (passed_unnamed held record_size level node other) refl
 
-goes : {Y : Type 0} (named : Bool) (next : Result (Option NodeRef) MacError) (failed : MacError) (child : Option NodeRef) (on : Option NodeRef → Result Y MacError) (more : Option NodeRef → ℕ)
+pub goes : {Y : Type 0} (named : Bool) (next : Result (Option NodeRef) MacError) (failed : MacError) (child : Option NodeRef) (on : Option NodeRef → Result Y MacError) (more : Option NodeRef → ℕ)
     (result : Result Y MacError) (s m t : ShelfState) → (named ≡ false → next ≡ Err failed)
     → Gave (if named then 1 else 0) next (Ok child) s m → Gave (more child) (on child) result m t
     → Gave (if named then suc (goes_on more (λ _. 0) next) else 0) (goes_on on (λ failed. Err failed) next) result s t

@@ -1,15 +1,15 @@
 -- The walk from the top of a tree to one block, over the blocks that a shelf holds. A place is a level and an
 -- index in it: the node of level k and index j covers the blocks from j * 32 ^ k on, and its own MAC and
 -- address stand in the node above it.
-use Rattle.std.specs.Prelude.{ℕ, zero, suc, ◌+◌, ◌-◌, ◌/◌, ◌%◌, ◌^◌, ◌==◌, ◌&&◌, Bool, if◌then◌else◌, List, length, map, Option, Some, None, Result, Ok, Err}
-use Rattle.std.specs.List.{slice_get}
+use Rattle.std.specs.Prelude.{ℕ, zero, suc, ◌+◌, ◌-◌, ◌/◌, ◌%◌, ◌^◌, ◌==◌, ◌&&◌, Bool, if◌then◌else◌, List, length, map, replicate, Option, Some, None, Result, Ok, Err}
+use Rattle.std.specs.List.{slice_get, slice_index_or}
 use Rattle.std.specs.Option.{option_eq, option_and_then, option_map_or}
 use Rattle.indirect_macs.specs.declared.refs.BlockRef.{BlockRef}
 use Rattle.indirect_macs.specs.declared.refs.NodeRef.{NodeRef}
 use Rattle.indirect_macs.specs.declared.refs.MacError.{MacError}
 use Rattle.indirect_macs.specs.declared.refs.MacError.TheVariants.{MacFailed}
 use Rattle.indirect_macs.specs.Entries.{block_at, node_at}
-use Rattle.indirect_macs.specs.Nodes.{node_len, node_passes, entry_at}
+use Rattle.indirect_macs.specs.Nodes.{node_len, node_passes, entry_at, blocks_of}
 
 -- the index of the place of this level that covers a block
 abbrev pub place_of : (level index : ℕ) → ℕ
@@ -84,3 +84,22 @@ reads held record_size index (suc below) (Some node) =
     then suc (goes_on (λ next. reads held record_size index below next) (λ _. 0)
     (next_node held record_size index (below + 2) node))
     else 0
+
+-- the references to the 32 blocks under the node of level 1 over a block, as that node has them
+unfoldable pub group_in : (held : List (List ℕ)) → (record_size index : ℕ) → NodeRef
+    → Result (List (Option BlockRef)) MacError
+group_in held record_size index node =
+    option_map_or (λ bytes. Ok (blocks_of bytes)) (passed held record_size 1 node) (Err (fails_at 1 index))
+
+-- the walk to that node, which gives all of them; they are holes where the node is in one
+unfoldable pub group_walk : (held : List (List ℕ)) → (record_size index below : ℕ) → Option NodeRef
+    → Result (List (Option BlockRef)) MacError
+group_walk held record_size index below None = Ok (replicate 32 None)
+group_walk held record_size index zero (Some node) = group_in held record_size index node
+group_walk held record_size index (suc below) (Some node) =
+    goes_on (λ next. group_walk held record_size index below next) (λ failed. Err failed)
+    (next_node held record_size index (below + 2) node)
+
+-- what it gives of one of these blocks
+abbrev pub in_group : (index : ℕ) → Result (List (Option BlockRef)) MacError → Result (Option BlockRef) MacError
+in_group index group = goes_on (λ refs. Ok (slice_index_or refs (index % 32) None)) (λ failed. Err failed) group

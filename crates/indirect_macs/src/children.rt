@@ -64,7 +64,7 @@ fn refs_in(node: &[u8; ENTRIES * NODE_ENTRY_LEN]) -> [Found; 32]
 }
 
 // The references in a node of level 1.
-fn blocks_in(node: &[u8; ENTRIES * BLOCK_ENTRY_LEN]) -> [Option<BlockRef>; 32]
+pub fn blocks_in(node: &[u8; ENTRIES * BLOCK_ENTRY_LEN]) -> [Option<BlockRef>; 32]
     ensures { result ≡ map (λ slot. block_at (entry_at 1 node.now slot)) slots }
 {
     let mut blocks = [None; ENTRIES];

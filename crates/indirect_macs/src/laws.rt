@@ -1,10 +1,10 @@
 // Laws of the definitions. The functions do nothing.
-ghost use Rattle.std.specs.Prelude.{◌≡◌, ◌<◌, ◌≤◌, ◌++◌, ℕ, List, Option, Some, None, Ok, Err, All, IfSome, IsSome, length, slice_index, map, true};
+ghost use Rattle.std.specs.Prelude.{◌≡◌, ◌<◌, ◌≤◌, ◌++◌, ◌/◌, ℕ, List, Option, Some, None, Ok, Err, All, IfSome, IsSome, length, slice_index, map, true};
 ghost use Rattle.std.specs.List.{flat_map};
 ghost use Rattle.std.specs.Option.{option_map};
 ghost use Rattle.indirect_macs.specs.Entries.{IsBlockRef, IsNodeRef, block_under_mac, node_under_mac};
 ghost use Rattle.indirect_macs.specs.Nodes.{block_node, blocks_of, has_entries, mac_of, node_len, node_mac, ref_node, refs_of};
-ghost use Rattle.indirect_macs.specs.Walk.{fails_at, passed, walk};
+ghost use Rattle.indirect_macs.specs.Walk.{fails_at, group_walk, in_group, passed, walk};
 ghost use Rattle.indirect_macs.specs.Places.{Place, block_in, place_at};
 ghost use Rattle.indirect_macs.specs.declared.refs.BlockRef.{BlockRef};
 ghost use Rattle.indirect_macs.specs.declared.refs.NodeRef.{NodeRef};
@@ -66,4 +66,12 @@ pub fn walks_stay_when_the_shelf_grows()
         (found : Option BlockRef)
         → walk held record_size index below top ≡ Ok found
         → walk (held ++ more) record_size index below top ≡ Ok found }
+{}
+
+/// The walk to a group of 32 blocks is the walk to each of them: it gives what that gives, and fails
+/// where that fails, with the same place.
+pub fn groups_lead_to_their_blocks()
+    ensures { (held : List (List ℕ)) (record_size index below other : ℕ) (top : Option NodeRef)
+        → other / 32 ≡ index / 32
+        → walk held record_size other below top ≡ in_group other (group_walk held record_size index below top) }
 {}

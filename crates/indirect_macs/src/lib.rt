@@ -8,6 +8,7 @@
 mod children;
 mod entry;
 mod fold;
+mod group;
 mod laws;
 mod node;
 mod refs;
@@ -19,9 +20,10 @@ mod stored;
 mod walk;
 
 pub use fold::fold_mac;
+pub use group::lookup_group;
 pub use laws::{
-    block_nodes_have_one_spelling, ref_nodes_have_one_spelling, walks_stay_when_the_shelf_grows,
-    walks_stop_at_the_first_place_that_fails,
+    block_nodes_have_one_spelling, groups_lead_to_their_blocks, ref_nodes_have_one_spelling,
+    walks_stay_when_the_shelf_grows, walks_stop_at_the_first_place_that_fails,
 };
 pub use refs::{BlockRef, MacError, NodeRef, ObjTree};
 pub use replace::replace_run;

@@ -1,7 +1,7 @@
 // Worked trees, and how many calls of a shelf are made.
 ghost use Rattle.std.specs.Prelude.{◌^◌, ◌≡◌, ◌≤◌};
 
-use crate::{BlockRef, MacError, NodeRef, ObjTree, fold_mac, lookup, replace_run};
+use crate::{BlockRef, MacError, NodeRef, ObjTree, fold_mac, lookup, lookup_group, replace_run};
 use shelf_store::{MemShelf, Shelf};
 use std::alloc::Global;
 use std::process::Abort;
@@ -107,6 +107,26 @@ fn the_first_place_that_fails_is_named(rt: HostRuntime) -> Result<(), Fail> {
     };
     let top_failed = MacError::MacFailed { level: 2, index: 0 };
     assert_eq!(rt; lookup(&other, &mut shelf, 33, 512), Err(top_failed));
+    Ok(())
+}
+
+// Block 33 is the second of its group. The nodes over a group are read once, two of them here, and the
+// group fails as its blocks do.
+#[test]
+fn a_group_is_found_by_one_walk(rt: HostRuntime) -> Result<(), Fail> {
+    let mut shelf = MemShelf::fresh(rt.alloc())?;
+    assert_eq!(rt; shelf.put(&leaf()), Ok(0));
+    assert_eq!(rt; shelf.put(&top()), Ok(1));
+    let mut group = [None; 32];
+    assert!(rt; lookup_group(&TREE, &mut shelf, 31, 512) == Ok(group));
+    group[1] = Some(BLOCK);
+    shelf.fail_after(2);
+    assert!(rt; lookup_group(&TREE, &mut shelf, 63, 512) == Ok(group));
+    let fault = Err(MacError::ShelfFault);
+    assert!(rt; lookup_group(&TREE, &mut shelf, 63, 512) == fault);
+    assert_eq!(rt; shelf.alter(0, 80, 1), Ok(()));
+    let failed = Err(MacError::MacFailed { level: 1, index: 1 });
+    assert!(rt; lookup_group(&TREE, &mut shelf, 63, 512) == failed);
     Ok(())
 }
 

@@ -106,7 +106,7 @@ pub fn read_node<B: Shelf>(
 }
 
 // The reference to the node of the level below over a block.
-fn node_below<B: Shelf>(
+pub fn node_below<B: Shelf>(
     shelf: &mut B,
     node: &NodeRef,
     level: u8,
