@@ -98,6 +98,7 @@ fn the_first_place_that_fails_is_named(rt: HostRuntime) -> Result<(), Fail> {
     let failed = MacError::MacFailed { level: 1, index: 1 };
     assert_eq!(rt; lookup(&TREE, &mut shelf, 33, 512), Err(failed));
     assert_eq!(rt; lookup(&TREE, &mut shelf, 0, 512), Ok(None));
+    assert!(rt; lookup_group(&TREE, &mut shelf, 63, 512) == Err(failed));
     let other = ObjTree {
         levels: 2,
         top: Some(NodeRef {
@@ -110,8 +111,7 @@ fn the_first_place_that_fails_is_named(rt: HostRuntime) -> Result<(), Fail> {
     Ok(())
 }
 
-// Block 33 is the second of its group. The nodes over a group are read once, two of them here, and the
-// group fails as its blocks do.
+// Block 33 is the second of its group. The nodes over a group are read once, two of them here.
 #[test]
 fn a_group_is_found_by_one_walk(rt: HostRuntime) -> Result<(), Fail> {
     let mut shelf = MemShelf::fresh(rt.alloc())?;
@@ -124,9 +124,6 @@ fn a_group_is_found_by_one_walk(rt: HostRuntime) -> Result<(), Fail> {
     assert!(rt; lookup_group(&TREE, &mut shelf, 63, 512) == Ok(group));
     let fault = Err(MacError::ShelfFault);
     assert!(rt; lookup_group(&TREE, &mut shelf, 63, 512) == fault);
-    assert_eq!(rt; shelf.alter(0, 80, 1), Ok(()));
-    let failed = Err(MacError::MacFailed { level: 1, index: 1 });
-    assert!(rt; lookup_group(&TREE, &mut shelf, 63, 512) == failed);
     Ok(())
 }
 
