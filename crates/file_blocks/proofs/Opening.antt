@@ -1,5 +1,5 @@
 -- What the reading and opening of one block gives, over plain variables.
-use Rattle.std.proofs.Common.{◌≡◌, ℕ, ◌-◌, ◌≤◌, true, false, ◌==◌, List, [], ◌++◌, length, take, drop, map, replicate, length-take-le, length-drop, refl, sym, ap, subst, ◌∙◌, arith, Option, Some, None, Result, Ok, Err, if◌then◌else◌}
+use Rattle.std.proofs.Common.{◌≡◌, ℕ, ◌-◌, ◌≤◌, true, false, ◌==◌, List, [], ◌++◌, length, take, drop, map, replicate, length-take-le, length-drop, refl, sym, ap, ◌∙◌, arith, Option, Some, None, Result, Ok, Err, if◌then◌else◌}
 use Rattle.std.specs.Prelude.{IfSome}
 use Rattle.std.specs.List.{slice_get}
 use Rattle.std.specs.Option.{option_map, option_eq, option_and_then}
@@ -10,14 +10,9 @@ use Rattle.std.proofs.lemmas.Option.{IfSome_then, slice_get-map}
 use Rattle.block_crypt.specs.Blocks.{KeyValue, opened_block}
 use Rattle.shelf_store.specs.ShelfState.{ShelfState, HasToldSizes}
 use Rattle.indirect_macs.specs.declared.refs.BlockRef.{BlockRef}
-use Rattle.indirect_macs.specs.declared.refs.ObjTree.{ObjTree}
 use Rattle.indirect_macs.specs.declared.refs.MacError.{MacError}
 use Rattle.indirect_macs.specs.declared.refs.MacError.TheVariants.{MacFailed, ShelfFault, Full, NoMemory}
-use Rattle.indirect_macs.specs.Walk.{walk}
-use Rattle.indirect_macs.specs.Calls.{Gave, IsOver}
-use Rattle.file_blocks.specs.Objects.{Gives, opened_ref, text_of, text_at, filled, block_bytes}
-use Rattle.file_blocks.proofs.Readings.{gave_ok, gave_failed}
-use Rattle.file_blocks.proofs.Sizes.{walk_size}
+use Rattle.file_blocks.specs.Objects.{Gives, opened_ref, text_of, filled, block_bytes}
 
 -- ---- what an address names
 

@@ -1,5 +1,4 @@
-use Rattle.std.proofs.Common.{ℕ, ◌+◌, List, Option, Some, None, ap, sym, arith, ◌∙◌, replicate}
-use Rattle.indirect_macs.specs.declared.refs.BlockRef.{BlockRef}
+use Rattle.std.proofs.Common.{ℕ, ◌+◌, None, ap, sym, arith, ◌∙◌, replicate}
 use Rattle.file_blocks.specs.Objects.{IsAtBlock}
 use Rattle.file_blocks.proofs.Grouping.{known_later, text_failed, text_hole, text_found}
 use Rattle.file_blocks.proofs.Opening.{hole_bytes}
