@@ -11,3 +11,9 @@ pub struct Group {
     pub number: Option<u32>,
     pub refs: [Option<BlockRef>; 32],
 }
+
+/// No group yet.
+pub const NO_GROUP: Group = Group {
+    number: None,
+    refs: [None; 32],
+};

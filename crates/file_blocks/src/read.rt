@@ -3,7 +3,7 @@ ghost use Rattle.std.specs.Prelude.{◌≡◌, ◌<◌, ◌≤◌, ◌^◌, ◌+
 ghost use Rattle.file_blocks.specs.Objects.{Gives, IsInRange, IsObject, Reading, blocks_for, count_touched, first_touched, object_range, tested_blocks};
 
 use crate::block::read_block;
-use crate::group::Group;
+use crate::group::NO_GROUP;
 use crate::object::Object;
 use crate::text::append;
 use block_crypt::BlockKey;
@@ -77,10 +77,7 @@ fn read_into<K: BlockKey, B: Shelf>(
     let skip = (from % u64::from(block)) as usize;
     let upto = skip + (end - from) as usize;
     let width = block as usize;
-    let mut group = Group {
-        number: None,
-        refs: [None; 32],
-    };
+    let mut group = NO_GROUP;
     'each: for k in 0..count {
         let base = k as usize * width;
         let index = first + k;
@@ -167,10 +164,7 @@ fn test_into<K: BlockKey, B: Shelf>(
         (tested_blocks (K.told key.now) held block tree.now blocks) result) }
 {
     let mut count = 0;
-    let mut group = Group {
-        number: None,
-        refs: [None; 32],
-    };
+    let mut group = NO_GROUP;
     'each: for k in 0..blocks {
         match read_block(key, shelf, tree, k, block, &mut group, buffer) {
             Ok(stored) => count += u64::from(stored.is_some()),
