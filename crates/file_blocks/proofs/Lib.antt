@@ -1,6 +1,7 @@
 pub mod Sizes
 pub mod Readings
 pub mod Opening
+pub mod Grouping
 pub mod Ranges
 pub mod Loops
 pub mod Least

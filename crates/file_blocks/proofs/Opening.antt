@@ -1,5 +1,5 @@
 -- What the reading and opening of one block gives, over plain variables.
-use Rattle.std.proofs.Common.{◌≡◌, ℕ, ◌-◌, ◌≤◌, true, false, ◌==◌, List, [], ◌++◌, length, take, drop, map, replicate, length-take-le, length-drop, refl, sym, ap, subst, ◌∙◌, arith, Option, Some, None, Result, Ok, Err, if◌then◌else◌}
+use Rattle.std.proofs.Common.{◌≡◌, ℕ, ◌-◌, ◌≤◌, true, false, ◌==◌, List, [], ◌++◌, length, take, drop, map, replicate, length-take-le, length-drop, refl, sym, ap, ◌∙◌, arith, Option, Some, None, Result, Ok, Err, if◌then◌else◌}
 use Rattle.std.specs.Prelude.{IfSome}
 use Rattle.std.specs.List.{slice_get}
 use Rattle.std.specs.Option.{option_map, option_eq, option_and_then}
@@ -10,14 +10,9 @@ use Rattle.std.proofs.lemmas.Option.{IfSome_then, slice_get-map}
 use Rattle.block_crypt.specs.Blocks.{KeyValue, opened_block}
 use Rattle.shelf_store.specs.ShelfState.{ShelfState, HasToldSizes}
 use Rattle.indirect_macs.specs.declared.refs.BlockRef.{BlockRef}
-use Rattle.indirect_macs.specs.declared.refs.ObjTree.{ObjTree}
 use Rattle.indirect_macs.specs.declared.refs.MacError.{MacError}
 use Rattle.indirect_macs.specs.declared.refs.MacError.TheVariants.{MacFailed, ShelfFault, Full, NoMemory}
-use Rattle.indirect_macs.specs.Walk.{walk}
-use Rattle.indirect_macs.specs.Calls.{Gave, IsOver}
-use Rattle.file_blocks.specs.Objects.{Gives, opened_ref, text_of, text_at, filled, block_bytes}
-use Rattle.file_blocks.proofs.Readings.{gave_ok, gave_failed}
-use Rattle.file_blocks.proofs.Sizes.{walk_size}
+use Rattle.file_blocks.specs.Objects.{Gives, opened_ref, text_of, filled, block_bytes}
 
 -- ---- what an address names
 
@@ -115,43 +110,6 @@ gives_err f g answer (MacFailed level place) gives = gives
 gives_err f g answer ShelfFault gives = gives
 gives_err f g answer Full gives = gives
 gives_err f g answer NoMemory gives = gives
-
-pub block_found : {X : Type 0} (key : KeyValue) (record_size index : ℕ) (tree : ObjTree) (r : BlockRef) (f : X → Option (List ℕ)) (result : Result X MacError)
-    (calls : List (List ℕ) → ℕ) (s t u : ShelfState) → t.held ≡ s.held
-    → IfSome s.held (λ held. Gave (calls held) (walk held record_size index (tree.levels - 1) tree.top) (Ok (Some r)) s u)
-    → (r.size ≤ record_size → IfSome t.held (λ held. Gives f (text_of key held index (Some r)) result))
-    → IfSome s.held (λ held. Gives f (text_at key held record_size tree index) result)
-unfolding text_at
-block_found key record_size index tree r f result calls s t u same gave told =
-    by_held s.held gave (λ small. subst (λ (h : Option (List (List ℕ))). IfSome h (λ held. Gives f (text_of key held index (Some r)) result)) same (told small))
-  where
-    by_held : (h : Option (List (List ℕ))) → IfSome h (λ held. Gave (calls held) (walk held record_size index (tree.levels - 1) tree.top) (Ok (Some r)) s u)
-        → (r.size ≤ record_size → IfSome h (λ held. Gives f (text_of key held index (Some r)) result))
-        → IfSome h (λ held. Gives f (text_at key held record_size tree index) result)
-    by_held None gave told = tt
-    by_held (Some held) gave told =
-        let is = gave_ok (calls held) (walk held record_size index (tree.levels - 1) tree.top) (Some r) s u gave in
-        rw is (told (walk_size held record_size index (tree.levels - 1) tree.top r is))
-
-pub block_hole : (key : KeyValue) (record_size index : ℕ) (tree : ObjTree) (calls : List (List ℕ) → ℕ) (s u : ShelfState)
-    → IfSome s.held (λ held. Gave (calls held) (walk held record_size index (tree.levels - 1) tree.top) (Ok None) s u)
-    → IfSome s.held (λ held. text_at key held record_size tree index ≡ Ok None)
-unfolding text_at text_of
-block_hole key record_size index tree calls s u gave =
-    IfSome_then s.held gave (λ held one.
-    rw (gave_ok (calls held) (walk held record_size index (tree.levels - 1) tree.top) None s u one) refl)
-
-pub block_failed : {X : Type 0} (key : KeyValue) (record_size index : ℕ) (tree : ObjTree) (f : X → Option (List ℕ)) (stop : MacError)
-    (calls : List (List ℕ) → ℕ) (s u : ShelfState) → IsOver tree.levels index stop
-    → IfSome s.held (λ held. Gave (calls held) (walk held record_size index (tree.levels - 1) tree.top) (Err stop) s u)
-    → IfSome s.held (λ held. Gives f (text_at key held record_size tree index) (Err stop))
-unfolding text_at
-block_failed key record_size index tree f (MacFailed level place) calls s u over gave =
-    IfSome_then s.held gave (λ held one.
-    rw (gave_failed (calls held) (walk held record_size index (tree.levels - 1) tree.top) level place s u one) refl)
-block_failed key record_size index tree f ShelfFault calls s u over gave = IfSome_then s.held gave (λ held one. tt)
-block_failed key record_size index tree f Full calls s u over gave = absurd over
-block_failed key record_size index tree f NoMemory calls s u over gave = IfSome_then s.held gave (λ held one. tt)
 
 pub told_bytes : (held : Option (List (List ℕ))) (answer : List (List ℕ) → Result (Option (List ℕ)) MacError) (text front : List ℕ) → front ≡ text
     → IfSome held (λ h. answer h ≡ Ok (Some text)) → IfSome held (λ h. answer h ≡ Ok (Some front))

@@ -1,5 +1,6 @@
 pub mod ChangeFields
 pub mod Changes
+pub mod Groups
 pub mod Objects
 pub mod Outcomes
 pub mod Places

@@ -1,10 +1,12 @@
 // One block: the walk to it, and what it opens to.
-ghost use Rattle.std.specs.Prelude.{◌≡◌, ◌<◌, ◌≤◌, ◌^◌, ◌+◌, length, take, Some, IfOk, IfSome};
-ghost use Rattle.std.specs.Option.{option_map};
-ghost use Rattle.file_blocks.specs.Objects.{Gives, IsAtBlock, Reading, block_bytes, text_at, text_of};
+ghost use Rattle.std.specs.Prelude.{◌≡◌, ◌==◌, ◌<◌, ◌≤◌, ◌^◌, ◌+◌, ◌/◌, length, take, Some, IfOk, IfSome};
+ghost use Rattle.std.specs.Option.{option_eq, option_map};
+ghost use Rattle.file_blocks.specs.Groups.{IsKnown, ref_of};
+ghost use Rattle.file_blocks.specs.Objects.{Gives, IsAtBlock, Reading, block_bytes, text_at, text_of, walk_in};
 
+use crate::group::{GROUP, Group};
 use block_crypt::{BlockKey, MAX_BLOCK_LEN, Sealed, open_block};
-use indirect_macs::{BlockRef, MacError, ObjTree, lookup, names_block, read};
+use indirect_macs::{BlockRef, MacError, ObjTree, lookup_group, names_block, read};
 use shelf_store::Shelf;
 
 pub(crate) fn fails_at(index: u32) -> MacError
@@ -59,12 +61,56 @@ pub(crate) fn open_ref<K: BlockKey, B: Shelf>(
     }
 }
 
+// Whether this is the group of a block.
+fn has_block(group: &Group, index: u32) -> bool
+    ensures { result ≡ option_eq ◌==◌ group.now.number (Some (index / 32)) }
+{
+    group.number == Some(index / GROUP)
+}
+
+fn ref_of(group: &Group, index: u32) -> &Option<BlockRef>
+    ensures { result.now ≡ ref_of group.now.refs index }
+{
+    &group.refs[(index % GROUP) as usize]
+}
+
+// Walks to the group of a block, where it isn't the one that was walked to last.
+fn turn_to<B: Shelf>(
+    shelf: &mut B,
+    tree: &ObjTree,
+    index: u32,
+    block: u32,
+    group: &mut Group,
+) -> Result<(), MacError>
+    requires above { 1 ≤ tree.now.levels }
+    requires levels { tree.now.levels ≤ 5 }
+    requires within { index < 32 ^ tree.now.levels }
+    requires known { IsKnown (B.told shelf.old).held block tree.now group.old }
+    ensures reading { Reading tree.now.levels (IsAtBlock tree.now.levels index) result
+        (B.told shelf.old) (B.told shelf.new) }
+    ensures known { IsKnown (B.told shelf.new).held block tree.now group.new }
+    ensures told { IfSome (B.told shelf.old).held (λ held. Gives (λ _. ref_of group.new.refs index)
+        (walk_in held block tree.now index) result) }
+{
+    if has_block(group, index) {
+        return Ok(());
+    }
+    match lookup_group(tree, shelf, index, block) {
+        Ok(refs) => {
+            group.number = Some(index / GROUP);
+            group.refs = refs;
+            Ok(())
+        }
+        Err(stop) => Err(stop),
+    }
+}
+
 /// Reads and opens the block of an index of a tree into `out`, which has the record size and is then
 /// what the block stands for: what it stores, and zeros behind that. Gives how many bytes it stores,
 /// or None in a hole.
 ///
-/// The nodes over the block are read and tested from the top down, and then the block, each once. It
-/// takes no memory.
+/// The nodes over the block are read and tested from the top down, unless it is of the group that was
+/// read last, and then the block, each once. It takes no memory.
 ///
 /// # Errors
 ///
@@ -77,29 +123,34 @@ pub(crate) fn read_block<K: BlockKey, B: Shelf>(
     tree: &ObjTree,
     index: u32,
     block: u32,
+    group: &mut Group,
     out: &mut [u8],
 ) -> Result<Option<u32>, MacError>
     requires above { 1 ≤ tree.now.levels }
     requires levels { tree.now.levels ≤ 5 }
     requires within { index < 32 ^ tree.now.levels }
+    requires known { IsKnown (B.told shelf.old).held block tree.now group.old }
     requires fits { length out.old ≡ block }
     requires small { block ≤ MAX_BLOCK_LEN }
     ensures len { length out.new ≡ block }
     ensures reading { Reading (tree.now.levels + 1) (IsAtBlock tree.now.levels index) result
         (B.told shelf.old) (B.told shelf.new) }
+    ensures known { IsKnown (B.told shelf.new).held block tree.now group.new }
     ensures size { IfOk result (λ stored. IfSome stored (λ size. size ≤ block)) }
     ensures bytes { IfOk result (λ stored. out.new
         ≡ block_bytes block (option_map (λ size. take size out.new) stored)) }
     ensures told { IfSome (B.told shelf.old).held (λ held. Gives (option_map (λ size. take size out.new))
         (text_at (K.told key.now) held block tree.now index) result) }
 {
-    match lookup(tree, shelf, index, block) {
-        Ok(Some(r)) => read_ref(key, shelf, &r, index, block, out),
-        Ok(None) => {
+    if let Err(stop) = turn_to(shelf, tree, index, block, group) {
+        return Err(stop);
+    }
+    match ref_of(group, index) {
+        Some(r) => read_ref(key, shelf, r, index, block, out),
+        None => {
             out.fill(0);
             Ok(None)
         }
-        Err(stop) => Err(stop),
     }
 }
 

@@ -7,6 +7,7 @@
 
 mod block;
 mod change;
+mod group;
 mod laws;
 mod new_texts;
 mod object;

@@ -3,6 +3,7 @@ ghost use Rattle.std.specs.Prelude.{◌≡◌, ◌<◌, ◌≤◌, ◌^◌, ◌+
 ghost use Rattle.file_blocks.specs.Objects.{Gives, IsInRange, IsObject, Reading, blocks_for, count_touched, first_touched, object_range, tested_blocks};
 
 use crate::block::read_block;
+use crate::group::NO_GROUP;
 use crate::object::Object;
 use crate::text::append;
 use block_crypt::BlockKey;
@@ -76,9 +77,11 @@ fn read_into<K: BlockKey, B: Shelf>(
     let skip = (from % u64::from(block)) as usize;
     let upto = skip + (end - from) as usize;
     let width = block as usize;
+    let mut group = NO_GROUP;
     'each: for k in 0..count {
         let base = k as usize * width;
-        if let Err(stop) = read_block(key, shelf, &object.tree, first + k, block, buffer) {
+        let index = first + k;
+        if let Err(stop) = read_block(key, shelf, &object.tree, index, block, &mut group, buffer) {
             return Err(stop);
         }
         let part = &buffer[skip.saturating_sub(base)..width.min(upto - base)];
@@ -91,9 +94,9 @@ fn read_into<K: BlockKey, B: Shelf>(
 
 /// The bytes of an object from one place up to another, where `block` is the record size.
 ///
-/// The blocks that hold them are read in ascending order, and of each the nodes over it from the top
-/// down, then the block. Zeros stand for a hole and for what lies behind the bytes that a block
-/// stores. No block is touched where the range is empty.
+/// The blocks that hold them are read in ascending order: the nodes over them from the top down, once
+/// for each group of 32, and then each block. Zeros stand for a hole and for what lies behind the bytes
+/// that a block stores. No block is touched where the range is empty.
 ///
 /// # Errors
 ///
@@ -161,8 +164,9 @@ fn test_into<K: BlockKey, B: Shelf>(
         (tested_blocks (K.told key.now) held block tree.now blocks) result) }
 {
     let mut count = 0;
+    let mut group = NO_GROUP;
     'each: for k in 0..blocks {
-        match read_block(key, shelf, tree, k, block, buffer) {
+        match read_block(key, shelf, tree, k, block, &mut group, buffer) {
             Ok(stored) => count += u64::from(stored.is_some()),
             Err(stop) => return Err(stop),
         }

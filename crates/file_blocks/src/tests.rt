@@ -107,6 +107,21 @@ fn reads_are_those_of_another_implementation(rt: HostRuntime) -> Result<(), Fail
     Ok(())
 }
 
+// A read of the three blocks, of which one is a hole, reads the node over them once, and the two others:
+// three calls. So does a test of them.
+#[test]
+fn the_nodes_over_a_group_are_read_once(rt: HostRuntime) -> Result<(), Fail> {
+    let mut shelf = shelf_of(rt.alloc(), &THIRD, &node())?;
+    let fault = Some(MacError::ShelfFault);
+    shelf.fail_after(3);
+    read(rt.alloc(), &mut shelf, 0, 1536)?;
+    assert_eq!(rt; count(rt.alloc(), &mut shelf).err(), fault);
+    shelf.fail_after(3);
+    assert_eq!(rt; count(rt.alloc(), &mut shelf), Ok(2));
+    assert_eq!(rt; read(rt.alloc(), &mut shelf, 0, 1536).err(), fault);
+    Ok(())
+}
+
 // The third block is altered, then the node. The second call of a read, of the block itself, is armed.
 #[test]
 fn reads_stop_at_what_fails(rt: HostRuntime) -> Result<(), Fail> {
