@@ -1,6 +1,5 @@
 -- What a clone and a destroy leave of a host.
-use Rattle.std.proofs.Common.{◌≡◌, ⊎_elim, inl, inr, ℕ, ◌+◌, ◌<◌, ◌≤◌, Bool, true, false, not, cond, ◌==◌, ◌||◌, List, [], ◌∷◌, get_or, set, Option, Some, None, is_some, is_none, Result, Ok, Err, IfSome, OnOk, OnErr, refl, ap, sym, ◌∙◌, subst, arith}
-use Rattle.std.proofs.lemmas.Bool.{cases_Bool}
+use Rattle.std.proofs.Common.{◌≡◌, ⊎_elim, inl, inr, ℕ, ◌+◌, ◌≤◌, Bool, true, false, not, cond, ◌==◌, ◌||◌, List, [], ◌∷◌, get_or, set, Option, Some, None, is_none, Result, Ok, Err, IfSome, OnOk, OnErr, refl, ap, sym, ◌∙◌, subst, arith}
 use Rattle.std.specs.Option.{option_map}
 use Rattle.dataset_tree.specs.declared.refusal.Refusal.{Refusal}
 use Rattle.dataset_tree.specs.declared.refusal.Refusal.TheVariants as refusals
@@ -8,9 +7,9 @@ use Rattle.dataset_tree.specs.declared.refusal.Stop.{Stop}
 use Rattle.dataset_tree.specs.declared.refusal.Stop.TheVariants as stops
 use Rattle.dataset_tree.specs.declared.tree.Row.{Row as Dataset}
 use Rattle.dataset_tree.specs.Refusal.{Gives}
-use Rattle.dataset_tree.specs.Tree.{id_named, is_needed, row_named}
+use Rattle.dataset_tree.specs.Tree.{id_named, row_named}
 use Rattle.encryption_roots.specs.declared.command.KeyCmd.TheVariants as commands
-use Rattle.encryption_roots.specs.ById.{IsRisingById, at_id, with_id, without_id}
+use Rattle.encryption_roots.specs.ById.{at_id, with_id, without_id}
 use Rattle.encryption_roots.specs.Owners.{family}
 use Rattle.encryption_roots.proofs.ByIdLemmas.{IsRisingById-without_id}
 use Rattle.family_log.specs.declared.entry.Spot.{Spot}
@@ -28,7 +27,7 @@ use Rattle.key_machine.specs.Reap.{own_in_use}
 use Rattle.key_machine.specs.Refusals.{first_of, first_refusal}
 use Rattle.key_machine.specs.Reply.{Stepped, Reply, Done, Made, Refused, refused, unless_refused}
 use Rattle.key_machine.specs.Sound.{Sound}
-use Rattle.key_machine.specs.Step.{IsAccepted, key_step, refusal_of, target}
+use Rattle.key_machine.specs.Step.{key_step, refusal_of, target}
 use Rattle.key_machine.specs.Told.{nothing_told}
 use Rattle.key_machine.specs.Unload.{InUse}
 use Rattle.key_machine.proofs.CreateLawsStep.{NoneHolds, none_holds}
@@ -42,10 +41,10 @@ use Rattle.snap_clone.specs.Ids.{IsUpTo}
 use Rattle.snap_clone.proofs.IdLemmas.{is_new, up_to_more}
 use Rattle.host_state.specs.FileAnswers.{IsPlaceOf}
 use Rattle.host_state.specs.Hosts.{HostState, HostStepped, IsHost, KeyFacts, by_id, facts_of_family, facts_of_record}
-use Rattle.host_state.specs.SpotAnswers.{Clones, ClonesIn, ClonesOne, head_forgotten}
-use Rattle.host_state.specs.SpotLines.{AfterClone, clone_refusal, clone_step, cloned_in, cloned_of, cloned_unless, destroy_at, destroy_step, encrypted_id, families_left, family_id, family_of, has_parts, has_snaps, id_used, parts_in, without_dataset, without_head}
+use Rattle.host_state.specs.SpotAnswers.{Clones, ClonesIn, head_forgotten}
+use Rattle.host_state.specs.SpotLines.{AfterClone, clone_refusal, clone_step, cloned_in, cloned_of, cloned_unless, destroy_at, destroy_step, encrypted_id, families_left, family_id, has_parts, id_used, parts_in, without_dataset, without_head}
 use Rattle.host_state.proofs.SpotLemmas.{Keeps, at_left, clone_keeps, facts_without_id, here_at, one_host, put_at, removed_keeps, with_same}
-use Rattle.host_state.proofs.UndoLemmas.{cloned_state, relatives, undone}
+use Rattle.host_state.proofs.UndoLemmas.{relatives, undone}
 
 -- ---- the keystore has changed, and no record has
 

@@ -1,5 +1,5 @@
 -- What calls on one family of a host leave of it, and of the host.
-use Rattle.std.proofs.Common.{◌≡◌, ⊎_elim, ℕ, ◌+◌, ◌<◌, ◌≤◌, Bool, true, false, not, cond, nat_lt, ◌==◌, List, [], ◌∷◌, length, get_or, set, Option, Some, None, Result, Ok, Err, IfErr, IfSome, OnErr, OnOk, refl, ap, sym, ◌∙◌, subst, arith}
+use Rattle.std.proofs.Common.{◌≡◌, ⊎_elim, ℕ, ◌<◌, ◌≤◌, Bool, true, false, not, cond, nat_lt, ◌==◌, List, [], ◌∷◌, get_or, set, Option, Some, None, Result, Ok, Err, IfErr, IfSome, OnErr, OnOk, refl, ap, sym, ◌∙◌, subst, arith}
 use Rattle.std.proofs.lemmas.Bool.{cases_Bool, cases_eq, eqb-true}
 use Rattle.std.proofs.lemmas.Bool.Decides.{nat_tests}
 use Rattle.std.proofs.lemmas.List.{set-get_or}
@@ -28,12 +28,12 @@ use Rattle.key_machine.proofs.CreateLawsCases.{found_has}
 use Rattle.key_machine.proofs.KeyLists.{at_id_is}
 use Rattle.snap_clone.specs.Acts.{DropSnapshot, MakeClone, MakeSnapshot, Note}
 use Rattle.snap_clone.specs.Answers.{after_stop, clone_answer, drop_snapshot_answer, place_refusal, refusal_or, snapshot_answer, spot_removed, with_refused}
-use Rattle.snap_clone.specs.Ids.{IsUpTo, head_in}
-use Rattle.snap_clone.proofs.IdLemmas.{up_to_more, up_to_still}
+use Rattle.snap_clone.specs.Ids.{IsUpTo}
+use Rattle.snap_clone.proofs.IdLemmas.{up_to_still}
 use Rattle.host_state.specs.FileAnswers.{IsPlaceOf}
 use Rattle.host_state.specs.Hosts.{HostState, IsHost, KeyFacts, by_id, facts_of_family, facts_of_record, host_after}
 use Rattle.host_state.specs.SpotAnswers.{left_after}
-use Rattle.host_state.specs.SpotLines.{FamiliesLeft, Left, drop_left, dropped_unless, encrypted_id, encrypted_row, family_id, guid_from, made_unless, on_family, on_head, refused_host, replied, snapshot_left, unmade, with_families, without_head}
+use Rattle.host_state.specs.SpotLines.{Left, drop_left, dropped_unless, encrypted_id, encrypted_row, family_id, made_unless, on_family, on_head, replied, snapshot_left, unmade, with_families, without_head}
 use Rattle.host_state.proofs.PairedLemmas.{facts_with_id}
 
 -- ---- lists by id

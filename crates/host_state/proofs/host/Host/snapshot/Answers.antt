@@ -1,12 +1,8 @@
-use Rattle.std.proofs.Common.{◌≡◌, ◌∙◌, ℕ, ◌≤◌, List, Option, Result, Ok, Err, ap, refl, subst, sym}
-use Rattle.dataset_tree.specs.declared.refusal.Refusal.{Refusal}
-use Rattle.dataset_tree.specs.declared.refusal.Refusal.TheVariants.{NoHead, NoSnapshot}
+use Rattle.std.proofs.Common.{◌≡◌, ◌∙◌, ℕ, ◌≤◌, List, Option, Result, Err, ap, subst, sym}
+use Rattle.dataset_tree.specs.declared.refusal.Refusal.TheVariants.{NoHead}
 use Rattle.dataset_tree.specs.declared.refusal.Stop.{Stop}
 use Rattle.dataset_tree.specs.declared.refusal.Stop.TheVariants as stops
-use Rattle.encryption_roots.specs.ById.{at_id}
 use Rattle.encryption_roots.specs.Owners.{family}
-use Rattle.family_log.specs.declared.entry.Spot.{Spot}
-use Rattle.family_log.specs.Log.{snap_spot}
 use Rattle.family_log.specs.Model.{FamilyState}
 use Rattle.key_ciphers.specs.Calls.{AnswersDone}
 use Rattle.key_ciphers.specs.Ciphers.{ciphers}
