@@ -44,6 +44,7 @@ use Rattle.snap_clone.proofs.IdLemmas.{up_to_still}
 use Rattle.host_state.specs.Hosts.{HostState, IsHost, KeyFacts, by_id, facts_of_family, facts_of_record, guid_in}
 use Rattle.host_state.specs.FileLines.{FileStepped, Served, file_refusal, file_step, on_family, refused_file, refused_first, replied, served, served_by, set_of, unless_unmounted}
 use Rattle.host_state.specs.FileAnswers.{HasChanged, HasDone, HasRead, IsPlaceOf, IsServed, Replies, Serves, ServesAt, ServesFiles, ServesUnder, ServesUnless}
+use Rattle.host_state.proofs.HostParts.{Pairs}
 use Rattle.host_state.proofs.HostLemmas.{at_each}
 use Rattle.host_state.proofs.PairedLemmas.{opened_to}
 
@@ -301,7 +302,7 @@ served_one result entries at of head entry left key command place here serves =
 
 -- ---- the guid of an opened key is its family's
 
-at_by_id : {X Y : Type 0} (f : X → Y) (id : ℕ) (entries : List (ℕ × X)) → at_id id (by_id f entries) ≡ option_map f (at_id id entries)
+pub at_by_id : {X Y : Type 0} (f : X → Y) (id : ℕ) (entries : List (ℕ × X)) → at_id id (by_id f entries) ≡ option_map f (at_id id entries)
 at_by_id f id [] = refl
 at_by_id {X = X} {Y = Y} f id (entry ∷ entries) = by_test (entry.0 == id) (at_by_id f id entries) where
   by_test : (own : Bool) → at_id id (by_id f entries) ≡ option_map f (at_id id entries)
@@ -343,11 +344,11 @@ module _ (p : Plain) (of : ℕ) (key : MasterValue) where
 
 -- ---- the host
 
-pub served_host : (tells : Bool) (keys : Plain) (families new : List (ℕ × FamilyState)) (limit : ℕ) (result : Result FileReply AllocError) (id head : ℕ) (key : MasterValue) (command : FileCmd) → IsHost tells keys families limit
-    → ServesAt result families new id head key command (at_id id families) → IsHost tells keys new limit
-served_host tells keys families new limit result id head key command host is = by_found (at_id id families) refl is where
-  by_found : (found : Option FamilyState) → at_id id families ≡ found → ServesAt result families new id head key command found → IsHost tells keys new limit
-  by_found None none is = subst (λ (fs : List (ℕ × FamilyState)). IsHost tells keys fs limit) (sym is.1) host
+pub served_pairs : (tells : Bool) (keys : Plain) (families new : List (ℕ × FamilyState)) (limit : ℕ) (result : Result FileReply AllocError) (id head : ℕ) (key : MasterValue) (command : FileCmd) → Pairs tells keys families limit
+    → ServesAt result families new id head key command (at_id id families) → Pairs tells keys new limit
+served_pairs tells keys families new limit result id head key command host is = by_found (at_id id families) refl is where
+  by_found : (found : Option FamilyState) → at_id id families ≡ found → ServesAt result families new id head key command found → Pairs tells keys new limit
+  by_found None none is = subst (λ (fs : List (ℕ × FamilyState)). Pairs tells keys fs limit) (sym is.1) host
   by_found (Some state) there is = record {
     rising = subst (λ (fs : List (ℕ × FamilyState)). IsRisingById fs) (sym is.put) (IsRisingById-with_id id is.left families host.rising);
     paired = is.kept ∙ host.paired;
@@ -417,10 +418,10 @@ module _ (h : HostState) (command : FileCmd) where
 
 -- ---- the keystore's part
 
-pub under_host : (tells : Bool) (keys : Plain) (families new : List (ℕ × FamilyState)) (limit : ℕ) (result : Result FileReply AllocError) (of id : ℕ) (command : FileCmd) (key : Option Master)
-    → IsHost tells keys families limit → ServesUnder result families new of id command key → IsHost tells keys new limit
-under_host tells keys families new limit result at id command None host is = subst (λ (fs : List (ℕ × FamilyState)). IsHost tells keys fs limit) (sym is.1) host
-under_host tells keys families new limit result at id command (Some key) host is = served_host tells keys families new limit result at id (value_of key) command host is
+pub under_pairs : (tells : Bool) (keys : Plain) (families new : List (ℕ × FamilyState)) (limit : ℕ) (result : Result FileReply AllocError) (of id : ℕ) (command : FileCmd) (key : Option Master)
+    → Pairs tells keys families limit → ServesUnder result families new of id command key → Pairs tells keys new limit
+under_pairs tells keys families new limit result at id command None host is = subst (λ (fs : List (ℕ × FamilyState)). Pairs tells keys fs limit) (sym is.1) host
+under_pairs tells keys families new limit result at id command (Some key) host is = served_pairs tells keys families new limit result at id (value_of key) command host is
 
 pub under_key : (p : Plain) (families new : List (ℕ × FamilyState)) (result : Result FileReply AllocError) (of id : ℕ) (command : FileCmd) (key : Option Master) → of ≡ family p.tree.rows id → key ≡ opened_key p of
     → ServesUnder result families new of id command key → ServesUnder result families new (family p.tree.rows id) id command (opened_key p (family p.tree.rows id))
@@ -429,11 +430,11 @@ under_key p families new result of id command key of_is key_is is =
     (subst (λ (k : Option Master). ServesUnder result families new of id command k) key_is is)
 
 -- behind the two looks at the keystore
-pub file_invariant : (tells : Bool) (p q : Plain) (families new : List (ℕ × FamilyState)) (limit : ℕ) (result : Result FileReply AllocError) (id : ℕ) (command : FileCmd) → q ≡ p → IsHost tells p families limit
-    → ServesUnder result families new (family q.tree.rows id) id command (opened_key q (family q.tree.rows id)) → IsHost tells p new limit
-file_invariant tells p q families new limit result id command same host is =
-    subst (λ (r : Plain). IsHost tells r new limit) same
-    (under_host tells q families new limit result (family q.tree.rows id) id command (opened_key q (family q.tree.rows id)) (subst (λ (r : Plain). IsHost tells r families limit) (sym same) host) is)
+pub file_pairs : (tells : Bool) (p q : Plain) (families new : List (ℕ × FamilyState)) (limit : ℕ) (result : Result FileReply AllocError) (id : ℕ) (command : FileCmd) → q ≡ p → Pairs tells p families limit
+    → ServesUnder result families new (family q.tree.rows id) id command (opened_key q (family q.tree.rows id)) → Pairs tells p new limit
+file_pairs tells p q families new limit result id command same host is =
+    subst (λ (r : Plain). Pairs tells r new limit) same
+    (under_pairs tells q families new limit result (family q.tree.rows id) id command (opened_key q (family q.tree.rows id)) (subst (λ (r : Plain). Pairs tells r families limit) (sym same) host) is)
 
 pub file_steps : (h : HostState) (host : IsHost h.tells h.keys h.families h.limit) (p q : Plain) (set : List ℕ) (new : List (ℕ × FamilyState)) (result : Result FileReply AllocError) (id : ℕ) (command : FileCmd)
     → p ≡ h.keys → q ≡ h.keys → set ≡ set_of command → (first_of (unmount_cases p set) ≡ None) × (id_named set p.tree.rows ≡ Some id) → h.tells ≡ true

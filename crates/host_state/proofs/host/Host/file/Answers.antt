@@ -5,7 +5,8 @@ use Rattle.file_dataset.specs.declared.reply.FileReply.TheVariants as replies
 use Rattle.host_state.specs.Hosts.{HostState, by_id, facts_of_record}
 use Rattle.host_state.specs.FileLines.{file_step}
 use Rattle.host_state.specs.FileAnswers.{ServesFiles}
-use Rattle.host_state.proofs.FileLemmas.{file_invariant, file_refuses, file_steps, files_refused, files_under}
+use Rattle.host_state.proofs.FileLemmas.{file_refuses, file_steps, files_refused, files_under}
+use Rattle.host_state.proofs.WholeHosts.{file_invariant}
 use Rattle.host_state.proofs.host.Host.file.Goals as goal
 
 pub file_on-requires-clause-paired : goal.file_on-requires-clause-paired
