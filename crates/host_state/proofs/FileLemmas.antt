@@ -381,7 +381,7 @@ module _ (h : HostState) (command : FileCmd) where
     abbrev of : ℕ
     of = family h.keys.tree.rows id
 
-    step_is : file_step h command ≡ on_family h id of command (at_id of h.families) (opened_key h.keys of)
+    pub step_is : file_step h command ≡ on_family h id of command (at_id of h.families) (opened_key h.keys of)
     step_is =
         ap (λ (fault : Option Refusal). unless_unmounted h command fault (id_named (set_of command) h.keys.tree.rows)) free
         ∙ ap (λ (at : Option ℕ). unless_unmounted h command None at) named

@@ -9,3 +9,4 @@ pub mod SpotHosts
 pub mod FilesLemmas
 pub mod DatasetLemmas
 pub mod WholeHosts
+pub mod MountedLemmas

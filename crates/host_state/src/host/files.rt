@@ -30,11 +30,10 @@ impl<B: Shelf> Host<B> {
     /// Carries out a command about the files of a mounted dataset, on its family and under the family's master key.
     ///
     /// A refusal is a reply: in this order `NoSuch` where no dataset has the name, `NotEncrypted` where it is plain,
-    /// `NotMounted`, and then those of the call of `file_dataset` that the command makes. Behind the three nothing
-    /// has changed. Of the others the log of the dataset's family has an entry, but for `NoHead` and a log without
-    /// room; one that comes before a block is read has used nothing, and another one may have used calls of the
-    /// shelf, draws and blocks. So too a command that is done: it adds one entry, and changes the table of the
-    /// dataset's head at most. Of all other families, and of the heads of this one, nothing has changed.
+    /// `NotMounted`, and then those of the call of `file_dataset` that the command makes. After the three nothing has
+    /// changed. After any other answer at most the dataset's family has: calls of its shelf, draws and blocks may have
+    /// been used, of which a refusal before a block is read uses none; its log has one more entry, unless it has no
+    /// room for the one of a refusal; and where the command changed the dataset's head, that has another table.
     ///
     /// # Errors
     ///
