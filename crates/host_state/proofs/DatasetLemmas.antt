@@ -1,5 +1,5 @@
 -- The heads of a host's families are its datasets.
-use Rattle.std.proofs.Common.{◌≡◌, ◌≢◌, ⊎_elim, ℕ, ◌+◌, ◌<◌, ◌≤◌, Bool, true, false, not, cond, ◌==◌, ◌&&◌, ◌||◌, List, [], ◌∷◌, ◌++◌, length, Option, Some, None, is_some, is_none, Result, Ok, Err, IfSome, refl, ap, sym, ◌∙◌, subst, arith}
+use Rattle.std.proofs.Common.{◌≡◌, ◌≢◌, ⊎_elim, ℕ, ◌≤◌, Bool, true, false, not, cond, ◌==◌, ◌&&◌, ◌||◌, List, [], ◌∷◌, ◌++◌, length, Option, Some, None, is_some, Result, Ok, Err, IfSome, refl, ap, sym, ◌∙◌, subst, arith}
 use Rattle.std.proofs.lemmas.Bool.{cases_Bool, cases_eq, eq-eqb, eqb-true, ne_eqb}
 use Rattle.std.proofs.lemmas.List.Elements.{recursion_from_All}
 use Rattle.std.specs.List.{filter}
@@ -8,32 +8,29 @@ use Rattle.std.specs.declared.alloc.AllocError.{AllocError}
 use Rattle.dataset_tree.specs.declared.refusal.Refusal.{Refusal}
 use Rattle.dataset_tree.specs.declared.refusal.Refusal.TheVariants as refusals
 use Rattle.dataset_tree.specs.declared.tree.Row.{Row as Dataset}
-use Rattle.dataset_tree.specs.Tree.{IsTree, is_needed, row_of}
+use Rattle.dataset_tree.specs.Tree.{is_needed, row_of}
 use Rattle.encryption_roots.specs.ById.{at_id, with_id, without_id}
 use Rattle.encryption_roots.specs.Owners.{family}
 use Rattle.encryption_roots.proofs.ByIdLemmas.{at_id-with_id, at_id-with_id_other, at_id-without_id, at_id-without_id_other}
 use Rattle.encryption_roots.proofs.OwnerLemmas.{falls_in_tree}
 use Rattle.family_log.specs.declared.entry.Spot.{Spot}
 use Rattle.family_log.specs.declared.head.Head.{Head}
-use Rattle.family_log.specs.declared.table.Table.{Table}
-use Rattle.family_log.specs.Calls.{given, new_place, with_entry, with_head}
-use Rattle.family_log.specs.Model.{FamilyState, head_of, table_of}
+use Rattle.family_log.specs.Calls.{given, with_head}
+use Rattle.family_log.specs.Model.{FamilyState, head_of}
 use Rattle.family_log.specs.Snapshots.{clone_added, clone_of, head_removed, with_snapshot, without_snapshot}
 use Rattle.family_log.proofs.SpotLemmas.{id_stays}
-use Rattle.file_dataset.specs.ChangeCalls.{used}
 use Rattle.file_dataset.specs.declared.reply.FileReply.{FileReply}
 use Rattle.file_dataset.specs.declared.reply.FileReply.TheVariants as replies
-use Rattle.key_machine.specs.Plain.{Plain, Stored}
+use Rattle.key_machine.specs.Plain.{Plain}
 use Rattle.key_machine.specs.Sound.{SoundTree}
 use Rattle.key_machine.proofs.CreateLawsGrown.{Grows, family_apart, family_stays, new_found, other_found, was_given}
 use Rattle.key_machine.proofs.CreateLawsRows.{family_is_given, row_is_given}
 use Rattle.key_machine.proofs.DestroyLawsRows.{row_of_gone, row_of_left, rows_left}
 use Rattle.key_machine.proofs.DestroyLaws.{family_after}
-use Rattle.snap_clone.specs.Answers.{clone_answer, drop_snapshot_answer, is_snapshot, place_refusal, refusal_or, snapshot_answer, spot_removed, with_refused}
+use Rattle.snap_clone.specs.Answers.{drop_snapshot_answer, place_refusal, refusal_or, snapshot_answer, with_refused}
 use Rattle.host_state.specs.FileAnswers.{HasChanged, HasDone, HasRefused}
-use Rattle.host_state.specs.FileLines.{spot_at}
 use Rattle.host_state.specs.Hosts.{HasDatasets, by_id, facts_of_family, facts_of_record, is_member}
-use Rattle.host_state.specs.SpotLines.{drop_left, dropped_unless, made_unless, snapshot_left, unmade, without_head}
+use Rattle.host_state.specs.SpotLines.{drop_left, dropped_unless, made_unless, snapshot_left, without_head}
 use Rattle.host_state.proofs.FileLemmas.{at_by_id}
 use Rattle.host_state.proofs.HostParts.{Heads}
 

@@ -1,21 +1,18 @@
 -- A mounted dataset has a family, that family's opened master key, and a head.
-use Rattle.std.proofs.Common.{◌≡◌, ⊎_elim, ℕ, Bool, true, false, not, cond, ◌==◌, ◌&&◌, List, [], ◌∷◌, Option, Some, None, is_some, is_none, IfSome, refl, ap, sym, ◌∙◌, subst}
+use Rattle.std.proofs.Common.{◌≡◌, ⊎_elim, ℕ, Bool, true, false, cond, ◌==◌, ◌&&◌, List, [], ◌∷◌, Option, Some, None, is_some, is_none, IfSome, refl, ap, sym, ◌∙◌, subst}
 use Rattle.std.proofs.lemmas.Bool.{cases_Bool, eq-eqb, eqb-true}
 use Rattle.std.proofs.lemmas.List.Elements.{All-head, All-tail}
 use Rattle.std.specs.List.{All, list_any}
 use Rattle.std.specs.Option.{option_map}
-use Rattle.dataset_tree.specs.declared.refusal.Refusal.{Refusal}
 use Rattle.dataset_tree.specs.declared.tree.Row.{Row as Dataset}
-use Rattle.dataset_tree.specs.Tree.{id_named, row_named, row_of}
+use Rattle.dataset_tree.specs.Tree.{id_named, row_named}
 use Rattle.encryption_roots.specs.ById.{at_id}
 use Rattle.encryption_roots.specs.Owners.{family}
-use Rattle.family_log.specs.declared.head.Head.{Head}
 use Rattle.family_log.specs.Model.{FamilyState, head_of}
 use Rattle.file_dataset.specs.declared.command.FileCmd.{FileCmd}
-use Rattle.key_ciphers.specs.Ciphers.{ciphers, value_of}
+use Rattle.key_ciphers.specs.Ciphers.{ciphers}
 use Rattle.key_machine.specs.Counts.{is_opened}
-use Rattle.key_machine.specs.Plain.{Master, Plain, Stored, mkey}
-use Rattle.key_machine.specs.Refusals.{first_of}
+use Rattle.key_machine.specs.Plain.{Master, Plain, mkey}
 use Rattle.key_machine.specs.Sound.{IsEncrypted, Sound}
 use Rattle.key_machine.specs.Unmount.{unmount_cases}
 use Rattle.key_machine.specs.Users.{is_mounted}
@@ -25,8 +22,8 @@ use Rattle.key_machine.proofs.MountSteps.{opened_where}
 use Rattle.key_machine.proofs.NamedLaws.{encrypted_named, named}
 use Rattle.key_store.specs.State.{opened_key}
 use Rattle.key_store.proofs.OpenedLemmas.{opened_has_master}
-use Rattle.host_state.specs.FileLines.{FileStepped, file_refusal, file_step, on_family, served_by, set_of}
-use Rattle.host_state.specs.Hosts.{HasDatasets, HostState, IsHost, KeyFacts, by_id, facts_of_family, facts_of_record, is_member}
+use Rattle.host_state.specs.FileLines.{file_refusal, on_family, set_of}
+use Rattle.host_state.specs.Hosts.{HasDatasets, HostState, IsHost, KeyFacts, facts_of_family, facts_of_record, is_member}
 use Rattle.host_state.specs.Mounted.{HasHead, IsCalled}
 use Rattle.host_state.proofs.FileLemmas.{at_by_id, step_is}
 

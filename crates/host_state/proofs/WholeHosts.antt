@@ -1,5 +1,5 @@
 -- The host behind a call, with the heads of its families.
-use Rattle.std.proofs.Common.{◌≡◌, ⊎_elim, ℕ, ◌+◌, ◌≤◌, Bool, true, false, cond, ◌&&◌, List, [], ◌∷◌, ◌++◌, length, Option, Some, None, is_some, is_none, is_err, Result, Ok, Err, OnErr, OnOk, refl, ap, sym, ◌∙◌, subst, arith}
+use Rattle.std.proofs.Common.{◌≡◌, ⊎_elim, ℕ, ◌+◌, Bool, true, false, cond, ◌&&◌, List, [], ◌∷◌, ◌++◌, length, Option, Some, None, is_some, is_none, is_err, Result, Ok, Err, OnErr, OnOk, refl, ap, sym, ◌∙◌, subst, arith}
 use Rattle.std.specs.Prelude.{nat_le, unwrap_or}
 use Rattle.std.specs.Option.{option_map, option_map_or}
 use Rattle.std.specs.declared.alloc.AllocError.{AllocError}
@@ -22,7 +22,6 @@ use Rattle.encryption_roots.specs.ById.{IsRisingById, at_id, with_id, without_id
 use Rattle.encryption_roots.specs.Owners.{family}
 use Rattle.wrapped_keys.specs.Values.{MasterValue}
 use Rattle.family_log.specs.declared.entry.Spot.{Spot}
-use Rattle.family_log.specs.declared.head.Head.{Head}
 use Rattle.family_log.specs.declared.table.Table.{Table}
 use Rattle.family_log.specs.Log.{snap_spot}
 use Rattle.family_log.specs.Model.{FamilyState, head_of, table_of}
@@ -36,7 +35,7 @@ use Rattle.key_machine.specs.Clone.{cloned}
 use Rattle.key_machine.specs.Create.{makes_encrypted}
 use Rattle.key_machine.specs.Destroy.{destroyed, has_relatives}
 use Rattle.key_machine.specs.Plain.{Master, Plain}
-use Rattle.key_machine.specs.Reply.{Stepped, Reply, Done, Made, Refused}
+use Rattle.key_machine.specs.Reply.{Stepped, Made, Refused}
 use Rattle.key_machine.specs.Sound.{Sound, SoundTree}
 use Rattle.key_machine.specs.Step.{key_step, refusal_of, target, told}
 use Rattle.key_machine.specs.Told.{Told, nothing_told}
@@ -53,7 +52,7 @@ use Rattle.snap_clone.specs.Answers.{clone_answer, is_snapshot}
 use Rattle.host_state.specs.FileAnswers.{ServesAt, ServesUnder}
 use Rattle.host_state.specs.Hosts.{HostState, IsHost, by_id, facts_of_family, facts_of_record, family_from, new_block, new_family, seeded_family, seeded_portable, with_family}
 use Rattle.host_state.specs.SpotAnswers.{Clones, ClonesIn, head_forgotten, left_after}
-use Rattle.host_state.specs.SpotLines.{Left, encrypted_id, encrypted_row, family_id, family_of, has_parts, id_used, on_family, parts_in, without_dataset, without_head}
+use Rattle.host_state.specs.SpotLines.{Left, encrypted_id, encrypted_row, family_id, has_parts, id_used, on_family, parts_in, without_dataset, without_head}
 use Rattle.host_state.proofs.DatasetLemmas.{SameHeads, done_heads, heads_clone, heads_dropped, heads_first, heads_left, heads_lone, heads_one}
 use Rattle.host_state.proofs.FileLemmas.{file_pairs}
 use Rattle.host_state.proofs.HostLemmas.{created_not_pairs, created_pairs, made_id, same_after, still_pairs_at}

@@ -1,5 +1,5 @@
 -- What a host has of a dataset that is mounted.
-use Rattle.std.specs.Prelude.{◌≡◌, ℕ, Option, Some}
+use Rattle.std.specs.Prelude.{◌≡◌, ℕ, Some}
 use Rattle.dataset_tree.specs.Tree.{id_named}
 use Rattle.family_log.specs.declared.head.Head.{Head}
 use Rattle.family_log.specs.Model.{FamilyState, head_of}
