@@ -32,9 +32,10 @@ use Rattle.family_log.specs.Model.{FamilyState, fresh_family}
 use Rattle.family_log.specs.Tables.{fresh_table}
 use Rattle.file_dataset.specs.Portable.{portable}
 use Rattle.file_dataset.specs.Steady.{IsSteady}
-use Rattle.host_state.specs.Hosts.{HostState, KeyFacts, IsHost, by_id, facts_of_family, facts_of_record, seeded_family, family_from, new_block, new_family, with_family, created_families, host_step, host_after, log_room, seeded_guid, seeded_portable, seeded_salts}
+use Rattle.host_state.specs.Hosts.{HostState, KeyFacts, by_id, facts_of_family, facts_of_record, seeded_family, family_from, new_block, new_family, with_family, created_families, host_step, host_after, log_room, seeded_guid, seeded_portable, seeded_salts}
 use Rattle.snap_clone.specs.Ids.{IsUpTo}
 use Rattle.snap_clone.proofs.IdLemmas.{fresh_up_to, up_to_more}
+use Rattle.host_state.proofs.HostParts.{Pairs}
 use Rattle.host_state.proofs.PairedLemmas.{SameFacts, facts_with_id, written_guid}
 
 -- ---- a new dataset
@@ -181,10 +182,10 @@ created_below : (h : HostState) (name : List ℕ) (opts : Options) (kit : LineKi
 created_below h name opts kit id next last family below last_is id_is next_is family_is at =
     with_below h name opts kit next last below (omega (arith, last_is)) (omega (arith, last_is, id_is, next_is)) at id family family_is
 
-pub created_host : (h : HostState) (name : List ℕ) (opts : Options) (kit : LineKit) (id next : ℕ) (keys : Plain) (family : Option FamilyState) (families : List (ℕ × FamilyState)) → IsHost h.tells h.keys h.families h.limit
+pub created_pairs : (h : HostState) (name : List ℕ) (opts : Options) (kit : LineKit) (id next : ℕ) (keys : Plain) (family : Option FamilyState) (families : List (ℕ × FamilyState)) → Pairs h.tells h.keys h.families h.limit
     → (stepped h.keys (commands.Create name opts) kit).reply ≡ Made id → keys ≡ (stepped h.keys (commands.Create name opts) kit).state → next ≡ id → family ≡ new_family h name opts kit next → families ≡ with_family id family h.families
-    → IsRisingById families → IsHost h.tells keys families h.limit
-created_host h name opts kit id next keys family families host made keys_are next_is family_is families_are rising =
+    → IsRisingById families → Pairs h.tells keys families h.limit
+created_pairs h name opts kit id next keys family families host made keys_are next_is family_is families_are rising =
     let step : Stepped = stepped h.keys (commands.Create name opts) kit in
     let whole : record h { keys = keys; families = families } ≡ (host_step h (commands.Create name opts) kit).state = created_ok h name opts kit id next keys family families made keys_are next_is family_is families_are in
     let all : families ≡ created_families h name opts kit step.reply = ap (λ (k : HostState). k.families) whole in
@@ -205,10 +206,10 @@ still_below : (families others : List (ℕ × FamilyState)) (last later : ℕ) �
 still_below families others last later below same last_is id =
     subst (λ (fs : List (ℕ × FamilyState)). IfSome (at_id id fs) (IsUpTo later)) (sym same) (subst (λ (n : ℕ). IfSome (at_id id others) (IsUpTo n)) (sym last_is) (below id))
 
-pub created_not_host : (h : HostState) (name : List ℕ) (opts : Options) (kit : LineKit) (stop : Stop) (keys : Plain) (families : List (ℕ × FamilyState)) → IsHost h.tells h.keys h.families h.limit
+pub created_not_pairs : (h : HostState) (name : List ℕ) (opts : Options) (kit : LineKit) (stop : Stop) (keys : Plain) (families : List (ℕ × FamilyState)) → Pairs h.tells h.keys h.families h.limit
     → AnswersMade (Err stop) (stepped h.keys (commands.Create name opts) kit).reply → keys ≡ state_after (let stopped : Result ℕ Stop = Err stop in stopped) h.keys (stepped h.keys (commands.Create name opts) kit).state
-    → families ≡ h.families → IsHost h.tells keys families h.limit
-created_not_host h name opts kit (stops.Refused why) keys families host answers keys_are families_are =
+    → families ≡ h.families → Pairs h.tells keys families h.limit
+created_not_pairs h name opts kit (stops.Refused why) keys families host answers keys_are families_are =
     let step : Stepped = stepped h.keys (commands.Create name opts) kit in
     let same : by_id facts_of_family h.families ≡ by_id facts_of_record step.state.wrapped =
     ap (λ (r : Reply). by_id facts_of_family (created_families h name opts kit r)) (sym answers) ∙ create_paired h name opts kit host.paired in
@@ -221,7 +222,7 @@ created_not_host h name opts kit (stops.Refused why) keys families host answers 
       least = host.least;
       most = host.most;
     }
-created_not_host h name opts kit stops.NoMemory keys families host answers keys_are families_are = record {
+created_not_pairs h name opts kit stops.NoMemory keys families host answers keys_are families_are = record {
   rising = subst (λ (fs : List (ℕ × FamilyState)). IsRisingById fs) (sym families_are) host.rising;
   paired = ap (λ (fs : List (ℕ × FamilyState)). by_id facts_of_family fs) families_are ∙ host.paired ∙ ap (λ (p : Plain). by_id facts_of_record p.wrapped) (sym keys_are);
   steady = λ tells id. subst (λ (fs : List (ℕ × FamilyState)). IfSome (at_id id fs) IsSteady) (sym families_are) (host.steady tells id);
@@ -248,21 +249,21 @@ keys_after (Ok value) h keys step is = ap (λ (ks : Plain). record h { keys = ks
 keys_after (Err (stops.Refused why)) h keys step is = ap (λ (ks : Plain). record h { keys = ks }) is
 keys_after (Err stops.NoMemory) h keys step is = ap (λ (ks : Plain). record h { keys = ks }) is
 
-same_after : {T : Type 0} (result : Result T Stop) (before step : Plain) → SameFacts before step → SameFacts before (state_after result before step)
+pub same_after : {T : Type 0} (result : Result T Stop) (before step : Plain) → SameFacts before step → SameFacts before (state_after result before step)
 same_after (Ok value) before step same = same
 same_after (Err (stops.Refused why)) before step same = same
 same_after (Err stops.NoMemory) before step same = (refl, refl)
 
-pub still_host_at : (tells : Bool) (before step now : Plain) (families : List (ℕ × FamilyState)) (limit : ℕ) → IsHost tells before families limit → SameFacts before step → now ≡ step → IsHost tells now families limit
-still_host_at tells before step now families limit host same is = record {
+pub still_pairs_at : (tells : Bool) (before step now : Plain) (families : List (ℕ × FamilyState)) (limit : ℕ) → Pairs tells before families limit → SameFacts before step → now ≡ step → Pairs tells now families limit
+still_pairs_at tells before step now families limit host same is = record {
   rising = host.rising;
   paired = host.paired ∙ sym same.0 ∙ ap (λ (p : Plain). by_id facts_of_record p.wrapped) (sym is);
   steady = host.steady;
-  up_to = still_below families families before.tree.last now.tree.last host.up_to refl (ap (λ (p : Plain). p.tree.last) is ∙ same.1);
+  up_to = still_below families families before.tree.last now.tree.last host.up_to refl (ap (λ (p : Plain). p.tree.last) is ∙ ap (λ t. t.last) same.1);
   least = host.least;
   most = host.most;
 }
 
-pub still_host : {T : Type 0} (result : Result T Stop) (tells : Bool) (before step now : Plain) (families : List (ℕ × FamilyState)) (limit : ℕ) → IsHost tells before families limit
-    → SameFacts before step → now ≡ state_after result before step → IsHost tells now families limit
-still_host result tells before step now families limit host same is = still_host_at tells before (state_after result before step) now families limit host (same_after result before step same) is
+pub still_pairs : {T : Type 0} (result : Result T Stop) (tells : Bool) (before step now : Plain) (families : List (ℕ × FamilyState)) (limit : ℕ) → Pairs tells before families limit
+    → SameFacts before step → now ≡ state_after result before step → Pairs tells now families limit
+still_pairs result tells before step now families limit host same is = still_pairs_at tells before (state_after result before step) now families limit host (same_after result before step same) is

@@ -1,8 +1,12 @@
 pub mod ChangeLemmas
 pub mod PairedLemmas
+pub mod HostParts
 pub mod HostLemmas
 pub mod FileLemmas
 pub mod UndoLemmas
 pub mod SpotLemmas
 pub mod SpotHosts
 pub mod FilesLemmas
+pub mod DatasetLemmas
+pub mod WholeHosts
+pub mod MountedLemmas

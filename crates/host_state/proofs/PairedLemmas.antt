@@ -166,9 +166,9 @@ inherit_written p rising load_first kit (Some id) =
 
 -- ---- the commands
 
--- a state's records have the facts that those of another had, and its tree gave no other id last
+-- a state's records have the facts that those of another had, and it has the same tree
 abbrev pub SameFacts : Plain → Plain → Type 0
-SameFacts p q = (by_id facts_of_record q.wrapped ≡ by_id facts_of_record p.wrapped) × (q.tree.last ≡ p.tree.last)
+SameFacts p q = (by_id facts_of_record q.wrapped ≡ by_id facts_of_record p.wrapped) × (q.tree ≡ p.tree)
 
 changed_facts : (p : Plain) → IsRisingById p.wrapped → (opts : Options) (facts : Told) → All (WrittenFor p.wrapped) facts.wrapped → (at : Option ℕ) → SameFacts p (change_done p opts facts at).state
 changed_facts p rising opts facts written None = (refl, refl)

@@ -1,6 +1,5 @@
 -- What a clone and a destroy leave of a host.
-use Rattle.std.proofs.Common.{◌≡◌, ⊎_elim, inl, inr, ℕ, ◌+◌, ◌<◌, ◌≤◌, Bool, true, false, not, cond, ◌==◌, ◌||◌, List, [], ◌∷◌, get_or, set, Option, Some, None, is_some, is_none, Result, Ok, Err, IfSome, OnOk, OnErr, refl, ap, sym, ◌∙◌, subst, arith}
-use Rattle.std.proofs.lemmas.Bool.{cases_Bool}
+use Rattle.std.proofs.Common.{◌≡◌, ⊎_elim, inl, inr, ℕ, ◌+◌, ◌≤◌, Bool, true, false, not, cond, ◌==◌, ◌||◌, List, [], ◌∷◌, get_or, set, Option, Some, None, is_none, Result, Ok, Err, IfSome, OnOk, OnErr, refl, ap, sym, ◌∙◌, subst, arith}
 use Rattle.std.specs.Option.{option_map}
 use Rattle.dataset_tree.specs.declared.refusal.Refusal.{Refusal}
 use Rattle.dataset_tree.specs.declared.refusal.Refusal.TheVariants as refusals
@@ -8,9 +7,9 @@ use Rattle.dataset_tree.specs.declared.refusal.Stop.{Stop}
 use Rattle.dataset_tree.specs.declared.refusal.Stop.TheVariants as stops
 use Rattle.dataset_tree.specs.declared.tree.Row.{Row as Dataset}
 use Rattle.dataset_tree.specs.Refusal.{Gives}
-use Rattle.dataset_tree.specs.Tree.{id_named, is_needed, row_named}
+use Rattle.dataset_tree.specs.Tree.{id_named, row_named}
 use Rattle.encryption_roots.specs.declared.command.KeyCmd.TheVariants as commands
-use Rattle.encryption_roots.specs.ById.{IsRisingById, at_id, with_id, without_id}
+use Rattle.encryption_roots.specs.ById.{at_id, with_id, without_id}
 use Rattle.encryption_roots.specs.Owners.{family}
 use Rattle.encryption_roots.proofs.ByIdLemmas.{IsRisingById-without_id}
 use Rattle.family_log.specs.declared.entry.Spot.{Spot}
@@ -28,7 +27,7 @@ use Rattle.key_machine.specs.Reap.{own_in_use}
 use Rattle.key_machine.specs.Refusals.{first_of, first_refusal}
 use Rattle.key_machine.specs.Reply.{Stepped, Reply, Done, Made, Refused, refused, unless_refused}
 use Rattle.key_machine.specs.Sound.{Sound}
-use Rattle.key_machine.specs.Step.{IsAccepted, key_step, refusal_of, target}
+use Rattle.key_machine.specs.Step.{key_step, refusal_of, target}
 use Rattle.key_machine.specs.Told.{nothing_told}
 use Rattle.key_machine.specs.Unload.{InUse}
 use Rattle.key_machine.proofs.CreateLawsStep.{NoneHolds, none_holds}
@@ -41,16 +40,17 @@ use Rattle.snap_clone.specs.Answers.{clone_answer, is_snapshot, refusal_in}
 use Rattle.snap_clone.specs.Ids.{IsUpTo}
 use Rattle.snap_clone.proofs.IdLemmas.{is_new, up_to_more}
 use Rattle.host_state.specs.FileAnswers.{IsPlaceOf}
-use Rattle.host_state.specs.Hosts.{HostState, HostStepped, IsHost, KeyFacts, by_id, facts_of_family, facts_of_record}
-use Rattle.host_state.specs.SpotAnswers.{Clones, ClonesIn, ClonesOne, head_forgotten}
-use Rattle.host_state.specs.SpotLines.{AfterClone, clone_refusal, clone_step, cloned_in, cloned_of, cloned_unless, destroy_at, destroy_step, encrypted_id, families_left, family_id, family_of, has_parts, has_snaps, id_used, parts_in, without_dataset, without_head}
-use Rattle.host_state.proofs.SpotLemmas.{Keeps, at_left, clone_keeps, facts_without_id, here_at, one_host, put_at, removed_keeps, with_same}
-use Rattle.host_state.proofs.UndoLemmas.{cloned_state, relatives, undone}
+use Rattle.host_state.specs.Hosts.{HostState, HostStepped, KeyFacts, by_id, facts_of_family, facts_of_record}
+use Rattle.host_state.specs.SpotAnswers.{Clones, ClonesIn, head_forgotten}
+use Rattle.host_state.specs.SpotLines.{AfterClone, clone_refusal, clone_step, cloned_in, cloned_of, cloned_unless, destroy_at, destroy_step, encrypted_id, families_left, family_id, has_parts, id_used, parts_in, without_dataset, without_head}
+use Rattle.host_state.proofs.HostParts.{Pairs}
+use Rattle.host_state.proofs.SpotLemmas.{Keeps, at_left, clone_keeps, facts_without_id, here_at, one_pairs, put_at, removed_keeps, with_same}
+use Rattle.host_state.proofs.UndoLemmas.{relatives, undone}
 
 -- ---- the keystore has changed, and no record has
 
-pub raised_host : (tells : Bool) (keys raised : Plain) (families : List (ℕ × FamilyState)) (limit : ℕ) → IsHost tells keys families limit → raised.wrapped ≡ keys.wrapped → keys.tree.last ≤ raised.tree.last → IsHost tells raised families limit
-raised_host tells keys raised families limit host records higher = record {
+pub raised_pairs : (tells : Bool) (keys raised : Plain) (families : List (ℕ × FamilyState)) (limit : ℕ) → Pairs tells keys families limit → raised.wrapped ≡ keys.wrapped → keys.tree.last ≤ raised.tree.last → Pairs tells raised families limit
+raised_pairs tells keys raised families limit host records higher = record {
   rising = host.rising;
   paired = host.paired ∙ ap (λ rs. by_id facts_of_record rs) (sym records);
   steady = host.steady;
@@ -65,7 +65,7 @@ raised_host tells keys raised families limit host records higher = record {
 -- ---- a clone that nothing refuses
 
 -- what nothing refuses neither the keystore nor the family refuses
-free_clone : (p : Plain) (from name : List ℕ) (spot : Spot) (state : FamilyState) → clone_refusal p from name spot state ≡ None
+pub free_clone : (p : Plain) (from name : List ℕ) (spot : Spot) (state : FamilyState) → clone_refusal p from name spot state ≡ None
     → (refusal_of p (commands.Clone from name) ≡ None) × (clone_answer spot state ≡ Ok tt)
 free_clone p from name spot state none = by_snap (is_snapshot spot state.heads) none where
   by_answer : (answer : Result (Unit {0}) Refusal) → first_refusal (refusal_in answer ∷ []) ≡ None → answer ≡ Ok tt
@@ -171,7 +171,7 @@ cloned_none entries id from name spot keys none =
 
 -- ---- the host behind a clone
 
-module _ (h : HostState) (host : IsHost h.tells h.keys h.families h.limit) (from part name : List ℕ) (at id : ℕ) (family_is : at ≡ family_id h id) (result : Result (Unit {0}) Stop) (left : Plain) (new : List (ℕ × FamilyState)) where
+module _ (h : HostState) (host : Pairs h.tells h.keys h.families h.limit) (from part name : List ℕ) (at id : ℕ) (family_is : at ≡ family_id h id) (result : Result (Unit {0}) Stop) (left : Plain) (new : List (ℕ × FamilyState)) where
   abbrev spot : Spot
   spot = snap_spot id part
 
@@ -181,29 +181,29 @@ module _ (h : HostState) (host : IsHost h.tells h.keys h.families h.limit) (from
       put ∙ ap (λ (f : FamilyState). with_id at f h.families) same ∙ with_same at state h.families host.rising found
 
   host_one : (state : FamilyState) → at_id at h.families ≡ Some state → (result : Result (Unit {0}) Stop) (state_left : FamilyState) → Clones result from name spot h.keys left state state_left → new ≡ with_id at state_left h.families
-      → IsHost h.tells left new h.limit
+      → Pairs h.tells left new h.limit
   host_one state found (Ok done) state_left clones put =
       let free = free_clone h.keys from name spot state clones.0 in
       let grows = clone_grows h.keys from name free.0 in
       let last_is : left.tree.last ≡ h.keys.tree.last + 1 = ap (λ (q : Plain). q.tree.last) clones.1 ∙ grows.1 in
-      let raised : IsHost h.tells left h.families h.limit = raised_host h.tells h.keys left h.families h.limit host (ap (λ (q : Plain). q.wrapped) clones.1 ∙ grows.0) (omega (arith, last_is)) in
+      let raised : Pairs h.tells left h.families h.limit = raised_pairs h.tells h.keys left h.families h.limit host (ap (λ (q : Plain). q.wrapped) clones.1 ∙ grows.0) (omega (arith, last_is)) in
       let below : IsUpTo h.keys.tree.last state = subst (λ (f : Option FamilyState). IfSome f (IsUpTo h.keys.tree.last)) found (host.up_to at) in
       let keeps : Keeps left.tree.last state (clone_added spot (h.keys.tree.last + 1) state) =
       clone_keeps left.tree.last (h.keys.tree.last + 1) spot state free.1 (is_new state h.keys.tree.last (h.keys.tree.last + 1) below (omega arith)) (omega (arith, last_is)) in
-      subst (λ (fs : List (ℕ × FamilyState)). IsHost h.tells left fs h.limit) (sym (put ∙ ap (λ (f : FamilyState). with_id at f h.families) clones.2))
-      (one_host h.tells left h.families h.limit raised at state (clone_added spot (h.keys.tree.last + 1) state) found keeps)
+      subst (λ (fs : List (ℕ × FamilyState)). Pairs h.tells left fs h.limit) (sym (put ∙ ap (λ (f : FamilyState). with_id at f h.families) clones.2))
+      (one_pairs h.tells left h.families h.limit raised at state (clone_added spot (h.keys.tree.last + 1) state) found keeps)
   host_one state found (Err (stops.Refused why)) state_left clones put =
-      subst (λ (q : Plain). IsHost h.tells q new h.limit) (sym clones.1)
-      (subst (λ (fs : List (ℕ × FamilyState)). IsHost h.tells h.keys fs h.limit) (sym (put_back state state_left found clones.2 put)) host)
+      subst (λ (q : Plain). Pairs h.tells q new h.limit) (sym clones.1)
+      (subst (λ (fs : List (ℕ × FamilyState)). Pairs h.tells h.keys fs h.limit) (sym (put_back state state_left found clones.2 put)) host)
   host_one state found (Err stops.NoMemory) state_left clones put =
-      subst (λ (fs : List (ℕ × FamilyState)). IsHost h.tells left fs h.limit) (sym (put_back state state_left found clones.1 put))
-      (⊎_elim (λ (same : left ≡ h.keys). subst (λ (q : Plain). IsHost h.tells q h.families h.limit) (sym same) host)
-      (λ (used : left ≡ id_used h.keys). subst (λ (q : Plain). IsHost h.tells q h.families h.limit) (sym used) (raised_host h.tells h.keys (id_used h.keys) h.families h.limit host refl (omega arith))) clones.0)
+      subst (λ (fs : List (ℕ × FamilyState)). Pairs h.tells left fs h.limit) (sym (put_back state state_left found clones.1 put))
+      (⊎_elim (λ (same : left ≡ h.keys). subst (λ (q : Plain). Pairs h.tells q h.families h.limit) (sym same) host)
+      (λ (used : left ≡ id_used h.keys). subst (λ (q : Plain). Pairs h.tells q h.families h.limit) (sym used) (raised_pairs h.tells h.keys (id_used h.keys) h.families h.limit host refl (omega arith))) clones.0)
 
-  pub cloned_host : ClonesIn result from name spot h.keys left at h.families new (at_id at h.families) → IsHost h.tells left new h.limit
-  cloned_host is = by (at_id at h.families) refl is where
-    by : (found : Option FamilyState) → at_id at h.families ≡ found → ClonesIn result from name spot h.keys left at h.families new found → IsHost h.tells left new h.limit
-    by None found is = subst (λ (q : Plain). IsHost h.tells q new h.limit) (sym is.1) (subst (λ (fs : List (ℕ × FamilyState)). IsHost h.tells h.keys fs h.limit) (sym is.2) host)
+  pub cloned_pairs : ClonesIn result from name spot h.keys left at h.families new (at_id at h.families) → Pairs h.tells left new h.limit
+  cloned_pairs is = by (at_id at h.families) refl is where
+    by : (found : Option FamilyState) → at_id at h.families ≡ found → ClonesIn result from name spot h.keys left at h.families new found → Pairs h.tells left new h.limit
+    by None found is = subst (λ (q : Plain). Pairs h.tells q new h.limit) (sym is.1) (subst (λ (fs : List (ℕ × FamilyState)). Pairs h.tells h.keys fs h.limit) (sym is.2) host)
     by (Some state) found is = host_one state found result is.state_left is.clones is.put
 
   -- the answer and what is left are a step's
@@ -260,7 +260,7 @@ module _ (h : HostState) (from part name : List ℕ) (p : Plain) (here : p ≡ h
 -- ---- the host behind a destroy
 
 -- a refused destroy leaves the keystore as it was
-refused_state : (p : Plain) (name : List ℕ) (snaps : Bool) (why : Refusal) → (key_step p (commands.Destroy name snaps) nothing_told).reply ≡ Refused why → (key_step p (commands.Destroy name snaps) nothing_told).state ≡ p
+pub refused_state : (p : Plain) (name : List ℕ) (snaps : Bool) (why : Refusal) → (key_step p (commands.Destroy name snaps) nothing_told).reply ≡ Refused why → (key_step p (commands.Destroy name snaps) nothing_told).state ≡ p
 refused_state p name snaps why =
     by_step p (commands.Destroy name snaps) nothing_told (λ (s : Stepped). s.reply ≡ Refused why → s.state ≡ p)
     (λ accepted. by_target (target p (commands.Destroy name snaps))) (λ r state reply. refl) (λ r material reply. refl)
@@ -284,12 +284,12 @@ no_such p name none =
     first_is : refusal_of p (commands.Destroy name false) ≡ Some refusals.NoSuch
     first_is = ap (λ (r : Option Dataset). first_of ((is_none r, refusals.NoSuch) ∷ (is_needed_row p r || false, refusals.HasChildren) ∷ (is_mounted_row p r, refusals.Mounted) ∷ [])) (row_none (row_named name p.tree.rows) none)
 
-accepted_where_done : (p : Plain) (name : List ℕ) (snaps : Bool) → (key_step p (commands.Destroy name snaps) nothing_told).reply ≡ Done → refusal_of p (commands.Destroy name snaps) ≡ None
+pub accepted_where_done : (p : Plain) (name : List ℕ) (snaps : Bool) → (key_step p (commands.Destroy name snaps) nothing_told).reply ≡ Done → refusal_of p (commands.Destroy name snaps) ≡ None
 accepted_where_done p name snaps =
     by_step p (commands.Destroy name snaps) nothing_told (λ (s : Stepped). s.reply ≡ Done → refusal_of p (commands.Destroy name snaps) ≡ None)
     (λ accepted reply. accepted.state) (λ r state reply. absurd (cc)) (λ r material reply. absurd (cc))
 
-module _ (h : HostState) (host : IsHost h.tells h.keys h.families h.limit) (sound : Sound ciphers h.keys) (name : List ℕ) (id : ℕ) (at : id_named name h.keys.tree.rows ≡ Some id) where
+module _ (h : HostState) (host : Pairs h.tells h.keys h.families h.limit) (sound : Sound ciphers h.keys) (name : List ℕ) (id : ℕ) (at : id_named name h.keys.tree.rows ≡ Some id) where
   abbrev snaps : Bool
   snaps = has_parts (parts_in id (at_id (family h.keys.tree.rows id) h.families))
 
@@ -299,7 +299,7 @@ module _ (h : HostState) (host : IsHost h.tells h.keys h.families h.limit) (soun
   at_is : destroy_step h name ≡ destroy_at h name (Some id)
   at_is = ap (λ (found : Option ℕ). destroy_at h name found) at
 
-  left_is : gone.reply ≡ Done → head_forgotten h.families (family h.keys.tree.rows id) id ≡ without_dataset h id
+  pub left_is : gone.reply ≡ Done → head_forgotten h.families (family h.keys.tree.rows id) id ≡ without_dataset h id
   left_is done =
       let is : IsNamed h.keys name id = named h.keys name id at in
       let others : has_relatives h.keys id ≡ not (family h.keys.tree.rows id == id) =
@@ -335,12 +335,12 @@ module _ (h : HostState) (host : IsHost h.tells h.keys h.families h.limit) (soun
   abbrev of : ℕ
   of = family h.keys.tree.rows id
 
-  forgotten_host : (others : Bool) → IsHost h.tells (record h.keys { wrapped = cond others h.keys.wrapped (without_id of h.keys.wrapped) }) (cond others (without_head h.families of id (at_id of h.families)) (without_id of h.families)) h.limit
-  forgotten_host true = by (at_id of h.families) refl where
-    by : (found : Option FamilyState) → at_id of h.families ≡ found → IsHost h.tells h.keys (without_head h.families of id found) h.limit
+  forgotten_pairs : (others : Bool) → Pairs h.tells (record h.keys { wrapped = cond others h.keys.wrapped (without_id of h.keys.wrapped) }) (cond others (without_head h.families of id (at_id of h.families)) (without_id of h.families)) h.limit
+  forgotten_pairs true = by (at_id of h.families) refl where
+    by : (found : Option FamilyState) → at_id of h.families ≡ found → Pairs h.tells h.keys (without_head h.families of id found) h.limit
     by None found = host
-    by (Some state) found = one_host h.tells h.keys h.families h.limit host of state (head_removed id state) found (removed_keeps h.keys.tree.last id state)
-  forgotten_host false = record {
+    by (Some state) found = one_pairs h.tells h.keys h.families h.limit host of state (head_removed id state) found (removed_keeps h.keys.tree.last id state)
+  forgotten_pairs false = record {
     rising = IsRisingById-without_id of h.families host.rising;
     paired = facts_without_id facts_of_family of h.families ∙ ap (λ (fs : List (ℕ × KeyFacts)). without_id of fs) host.paired ∙ sym (facts_without_id facts_of_record of h.keys.wrapped);
     steady = λ told other. at_left IsSteady h.families of other (host.steady told other);
@@ -349,16 +349,16 @@ module _ (h : HostState) (host : IsHost h.tells h.keys h.families h.limit) (soun
     most = host.most;
   }
 
-  pub destroyed_host : (result : Result (Unit {0}) Refusal) (left : Plain) (new : List (ℕ × FamilyState)) → AnswersUnloaded result gone.reply → left ≡ gone.state
-      → OnOk result (new ≡ head_forgotten h.families of id) → OnErr result (new ≡ h.families) → IsHost h.tells left new h.limit
-  destroyed_host (Ok tt) left new answers keys_are forgotten same =
+  pub destroyed_pairs : (result : Result (Unit {0}) Refusal) (left : Plain) (new : List (ℕ × FamilyState)) → AnswersUnloaded result gone.reply → left ≡ gone.state
+      → OnOk result (new ≡ head_forgotten h.families of id) → OnErr result (new ≡ h.families) → Pairs h.tells left new h.limit
+  destroyed_pairs (Ok tt) left new answers keys_are forgotten same =
       let keys_gone : left ≡ destroyed h.keys id = keys_are ∙ done_state h.keys name snaps nothing_told id at answers in
-      let host_gone : IsHost h.tells (record h.keys { wrapped = records_left h.keys id }) (without_dataset h id) h.limit = forgotten_host (has_relatives h.keys id) in
-      let moved : IsHost h.tells (destroyed h.keys id) (without_dataset h id) h.limit =
-      raised_host h.tells (record h.keys { wrapped = records_left h.keys id }) (destroyed h.keys id) (without_dataset h id) h.limit host_gone refl (omega arith) in
-      subst (λ (q : Plain). IsHost h.tells q new h.limit) (sym keys_gone) (subst (λ (fs : List (ℕ × FamilyState)). IsHost h.tells (destroyed h.keys id) fs h.limit) (sym (forgotten ∙ left_is answers)) moved)
-  destroyed_host (Err why) left new answers keys_are forgotten same =
-      subst (λ (q : Plain). IsHost h.tells q new h.limit) (sym (keys_are ∙ refused_state h.keys name snaps why answers)) (subst (λ (fs : List (ℕ × FamilyState)). IsHost h.tells h.keys fs h.limit) (sym same) host)
+      let host_gone : Pairs h.tells (record h.keys { wrapped = records_left h.keys id }) (without_dataset h id) h.limit = forgotten_pairs (has_relatives h.keys id) in
+      let moved : Pairs h.tells (destroyed h.keys id) (without_dataset h id) h.limit =
+      raised_pairs h.tells (record h.keys { wrapped = records_left h.keys id }) (destroyed h.keys id) (without_dataset h id) h.limit host_gone refl (omega arith) in
+      subst (λ (q : Plain). Pairs h.tells q new h.limit) (sym keys_gone) (subst (λ (fs : List (ℕ × FamilyState)). Pairs h.tells (destroyed h.keys id) fs h.limit) (sym (forgotten ∙ left_is answers)) moved)
+  destroyed_pairs (Err why) left new answers keys_are forgotten same =
+      subst (λ (q : Plain). Pairs h.tells q new h.limit) (sym (keys_are ∙ refused_state h.keys name snaps why answers)) (subst (λ (fs : List (ℕ × FamilyState)). Pairs h.tells h.keys fs h.limit) (sym same) host)
 
 pub absent_steps : (h : HostState) (name : List ℕ) → id_named name h.keys.tree.rows ≡ None → (destroy_step h name).reply ≡ Refused refusals.NoSuch
 absent_steps h name none =

@@ -1,5 +1,5 @@
 -- What calls on one family of a host leave of it, and of the host.
-use Rattle.std.proofs.Common.{◌≡◌, ⊎_elim, ℕ, ◌+◌, ◌<◌, ◌≤◌, Bool, true, false, not, cond, nat_lt, ◌==◌, List, [], ◌∷◌, length, get_or, set, Option, Some, None, Result, Ok, Err, IfErr, IfSome, OnErr, OnOk, refl, ap, sym, ◌∙◌, subst, arith}
+use Rattle.std.proofs.Common.{◌≡◌, ⊎_elim, ℕ, ◌<◌, ◌≤◌, Bool, true, false, not, cond, nat_lt, ◌==◌, List, [], ◌∷◌, get_or, set, Option, Some, None, Result, Ok, Err, IfErr, IfSome, OnErr, OnOk, refl, ap, sym, ◌∙◌, subst, arith}
 use Rattle.std.proofs.lemmas.Bool.{cases_Bool, cases_eq, eqb-true}
 use Rattle.std.proofs.lemmas.Bool.Decides.{nat_tests}
 use Rattle.std.proofs.lemmas.List.{set-get_or}
@@ -28,12 +28,13 @@ use Rattle.key_machine.proofs.CreateLawsCases.{found_has}
 use Rattle.key_machine.proofs.KeyLists.{at_id_is}
 use Rattle.snap_clone.specs.Acts.{DropSnapshot, MakeClone, MakeSnapshot, Note}
 use Rattle.snap_clone.specs.Answers.{after_stop, clone_answer, drop_snapshot_answer, place_refusal, refusal_or, snapshot_answer, spot_removed, with_refused}
-use Rattle.snap_clone.specs.Ids.{IsUpTo, head_in}
-use Rattle.snap_clone.proofs.IdLemmas.{up_to_more, up_to_still}
+use Rattle.snap_clone.specs.Ids.{IsUpTo}
+use Rattle.snap_clone.proofs.IdLemmas.{up_to_still}
 use Rattle.host_state.specs.FileAnswers.{IsPlaceOf}
-use Rattle.host_state.specs.Hosts.{HostState, IsHost, KeyFacts, by_id, facts_of_family, facts_of_record, host_after}
+use Rattle.host_state.specs.Hosts.{HostState, KeyFacts, by_id, facts_of_family, facts_of_record, host_after}
 use Rattle.host_state.specs.SpotAnswers.{left_after}
-use Rattle.host_state.specs.SpotLines.{FamiliesLeft, Left, drop_left, dropped_unless, encrypted_id, encrypted_row, family_id, guid_from, made_unless, on_family, on_head, refused_host, replied, snapshot_left, unmade, with_families, without_head}
+use Rattle.host_state.specs.SpotLines.{Left, drop_left, dropped_unless, encrypted_id, encrypted_row, family_id, made_unless, on_family, on_head, replied, snapshot_left, unmade, with_families, without_head}
+use Rattle.host_state.proofs.HostParts.{Pairs}
 use Rattle.host_state.proofs.PairedLemmas.{facts_with_id}
 
 -- ---- lists by id
@@ -209,15 +210,15 @@ at_left P families at id others = ⊎_elim
     (λ (same : id ≡ at). subst (λ (i : ℕ). IfSome (at_id i (without_id at families)) P) (sym same) (subst (λ (found : Option FamilyState). IfSome found P) (sym (at_id-without_id at families)) tt))
     (λ apart. subst (λ (found : Option FamilyState). IfSome found P) (sym (at_id-without_id_other at id families apart)) others) (cases_eq id at)
 
-module _ (tells : Bool) (keys : Plain) (families : List (ℕ × FamilyState)) (limit : ℕ) (host : IsHost tells keys families limit) where
+module _ (tells : Bool) (keys : Plain) (families : List (ℕ × FamilyState)) (limit : ℕ) (host : Pairs tells keys families limit) where
   kept_facts : (at : ℕ) (state left : FamilyState) → at_id at families ≡ Some state → facts_of_family left ≡ facts_of_family state → by_id facts_of_family (with_id at left families) ≡ by_id facts_of_family families
   kept_facts at state left found facts =
       facts_with_id facts_of_family at left families ∙ ap (λ (f : KeyFacts). with_id at f (by_id facts_of_family families)) facts
       ∙ sym (facts_with_id facts_of_family at state families) ∙ ap (λ (fs : List (ℕ × FamilyState)). by_id facts_of_family fs) (with_same at state families host.rising found)
 
   -- one family is left so
-  pub one_host : (at : ℕ) (state left : FamilyState) → at_id at families ≡ Some state → Keeps keys.tree.last state left → IsHost tells keys (with_id at left families) limit
-  one_host at state left found keeps = record {
+  pub one_pairs : (at : ℕ) (state left : FamilyState) → at_id at families ≡ Some state → Keeps keys.tree.last state left → Pairs tells keys (with_id at left families) limit
+  one_pairs at state left found keeps = record {
     rising = IsRisingById-with_id at left families host.rising;
     paired = kept_facts at state left found keeps.facts ∙ host.paired;
     steady = λ told id. at_all IsSteady families at id left (keeps.steady (subst (λ (f : Option FamilyState). IfSome f IsSteady) found (host.steady told at))) (host.steady told id);
@@ -226,15 +227,15 @@ module _ (tells : Bool) (keys : Plain) (families : List (ℕ × FamilyState)) (l
     most = host.most;
   }
 
-  pub left_host : (at : ℕ) (why : Refusal) (call : FamilyState → Left) → ((state : FamilyState) → Keeps keys.tree.last state (call state).state) → (result : Result (Unit {0}) Stop)
-      → IsHost tells keys (left_after result families (on_family families at why call (at_id at families)).families) limit
-  left_host at why call keeps result = by (at_id at families) refl result where
-    by : (found : Option FamilyState) → at_id at families ≡ found → (result : Result (Unit {0}) Stop) → IsHost tells keys (left_after result families (on_family families at why call found).families) limit
+  pub left_pairs : (at : ℕ) (why : Refusal) (call : FamilyState → Left) → ((state : FamilyState) → Keeps keys.tree.last state (call state).state) → (result : Result (Unit {0}) Stop)
+      → Pairs tells keys (left_after result families (on_family families at why call (at_id at families)).families) limit
+  left_pairs at why call keeps result = by (at_id at families) refl result where
+    by : (found : Option FamilyState) → at_id at families ≡ found → (result : Result (Unit {0}) Stop) → Pairs tells keys (left_after result families (on_family families at why call found).families) limit
     by None at_is (Ok done) = host
     by None at_is (Err (stops.Refused why)) = host
     by None at_is (Err stops.NoMemory) = host
-    by (Some state) at_is (Ok done) = one_host at state (call state).state at_is (keeps state)
-    by (Some state) at_is (Err (stops.Refused why)) = one_host at state (call state).state at_is (keeps state)
+    by (Some state) at_is (Ok done) = one_pairs at state (call state).state at_is (keeps state)
+    by (Some state) at_is (Err (stops.Refused why)) = one_pairs at state (call state).state at_is (keeps state)
     by (Some state) at_is (Err stops.NoMemory) = host
 
 -- ---- the dataset of a command

@@ -1,5 +1,5 @@
 -- What the keystore is where a clone goes again; and whose family goes with a dataset.
-use Rattle.std.proofs.Common.{◌≡◌, ◌≢◌, ⊎_elim, ℕ, ◌+◌, ◌<◌, ◌≤◌, Bool, true, false, not, ◌==◌, ◌||◌, List, [], ◌∷◌, ◌++◌, get_or, Option, Some, None, is_some, is_none, refl, ap, sym, ◌∙◌, subst, arith}
+use Rattle.std.proofs.Common.{◌≡◌, ◌≢◌, ⊎_elim, ℕ, ◌+◌, ◌<◌, ◌≤◌, true, false, not, ◌==◌, ◌||◌, List, [], ◌∷◌, ◌++◌, get_or, Option, Some, None, is_some, is_none, refl, ap, sym, ◌∙◌, arith}
 use Rattle.std.proofs.lemmas.Bool.{cases_eq, cases_Bool, eq-eqb, ne_eqb}
 use Rattle.std.proofs.lemmas.List.Elements.{All-head, All-tail, filter-append, recursion_from_All}
 use Rattle.std.proofs.lemmas.List.Folds.{find-append, list_any_none}
@@ -26,7 +26,7 @@ use Rattle.key_machine.specs.Reply.{Stepped, Done}
 use Rattle.key_machine.specs.Sound.{IsEncrypted, Sound, SoundTree}
 use Rattle.key_machine.specs.Step.{IsAccepted, key_step, refusal_of, target}
 use Rattle.key_machine.specs.Told.{nothing_told}
-use Rattle.key_machine.specs.Users.{is_mounted, users_of}
+use Rattle.key_machine.specs.Users.{is_mounted}
 use Rattle.key_machine.proofs.CloneLaws.{IsClonable, clonable, clone_grows, cloned_sound, row}
 use Rattle.key_machine.proofs.CloneSteps.{clone_step}
 use Rattle.key_machine.proofs.CreateLawsCases.{found_has}

@@ -1,5 +1,5 @@
 -- What a command about the files of a dataset does to a host: to the family of the dataset, under its master key.
-use Rattle.std.specs.Prelude.{ℕ, List, [], Option, Some, None, Result, Ok, Err}
+use Rattle.std.specs.Prelude.{ℕ, ◌+◌, List, length, Option, Some, None, Result, Ok, Err}
 use Rattle.dataset_tree.specs.declared.refusal.Refusal.{Refusal}
 use Rattle.dataset_tree.specs.declared.refusal.Refusal.TheVariants.{KeyUnavailable, NoSuch}
 use Rattle.dataset_tree.specs.Tree.{id_named}
@@ -12,7 +12,8 @@ use Rattle.file_dataset.specs.declared.command.FileCmd.{FileCmd}
 use Rattle.file_dataset.specs.declared.command.FileCmd.TheVariants as commands
 use Rattle.file_dataset.specs.declared.reply.FileReply.{FileReply}
 use Rattle.file_dataset.specs.declared.reply.FileReply.TheVariants as replies
-use Rattle.file_dataset.specs.Calls.{block_key_of}
+use Rattle.file_dataset.specs.Calls.{block_key_of, refused_before}
+use Rattle.file_dataset.specs.ChangeCalls.{refused_edit}
 use Rattle.file_dataset.specs.Reads.{plain_count, plain_names, plain_read}
 use Rattle.file_dataset.specs.Steady.{Called, called_cut, called_make, called_read, called_remove, called_write}
 use Rattle.key_ciphers.specs.Ciphers.{value_of}
@@ -69,6 +70,19 @@ served_by key head (commands.Names set snap) family =
 served_by key head (commands.Verify set snap) family =
     served (λ count. replies.Blocks count)
     (called_read (λ held. plain_count (block_key_of key) key.hmac held) (spot_at head snap) family)
+
+-- why a command is refused before a block is read: by what the family has, by the command's numbers, or by the portable
+-- MAC
+abbrev pub refused_first : MasterValue → (head : ℕ) → FileCmd → FamilyState → Result (Unit {0}) Refusal
+refused_first key head (commands.Touch set file) family = refused_edit key.hmac 0 head family
+refused_first key head (commands.Remove set file) family = refused_edit key.hmac 0 head family
+refused_first key head (commands.Write set file from bytes) family =
+    refused_edit key.hmac (from + length bytes) head family
+refused_first key head (commands.Read set snap file from len) family =
+    refused_before key.hmac family (spot_at head snap)
+refused_first key head (commands.Cut set file to) family = refused_edit key.hmac to head family
+refused_first key head (commands.Names set snap) family = refused_before key.hmac family (spot_at head snap)
+refused_first key head (commands.Verify set snap) family = refused_before key.hmac family (spot_at head snap)
 
 -- ---- a host
 

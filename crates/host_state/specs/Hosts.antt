@@ -1,11 +1,12 @@
 -- A host, and what a command does to it: to its keystore, and to the families of its encrypted datasets.
-use Rattle.std.specs.Prelude.{◌≡◌, ℕ, ◌≤◌, Bool, true, List, [], map, unwrap_or, if◌then◌else◌, take, IfSome, Result, Ok, Err}
+use Rattle.std.specs.Prelude.{◌≡◌, ℕ, ◌≤◌, ◌==◌, ◌&&◌, Bool, true, List, [], map, unwrap_or, if◌then◌else◌, take, is_some, IfSome, Result, Ok, Err}
 use Rattle.std.specs.declared.option.Option.{Option}
 use Rattle.std.specs.declared.option.Option.TheVariants.{Some, None}
 use Rattle.byte_fields.specs.LittleEndian.{little_endian_value}
 use Rattle.dataset_tree.specs.declared.refusal.Stop.{Stop}
 use Rattle.dataset_tree.specs.declared.refusal.Stop.TheVariants as stops
-use Rattle.dataset_tree.specs.Tree.{id_named}
+use Rattle.dataset_tree.specs.declared.tree.Row.{Row}
+use Rattle.dataset_tree.specs.Tree.{id_named, row_of}
 use Rattle.encryption_roots.specs.declared.command.KeyCmd.{KeyCmd}
 use Rattle.encryption_roots.specs.declared.command.KeyCmd.TheVariants as commands
 use Rattle.encryption_roots.specs.declared.kit.LineKit.{LineKit}
@@ -13,10 +14,11 @@ use Rattle.encryption_roots.specs.declared.kit.SeedGot.{SeedGot}
 use Rattle.encryption_roots.specs.declared.kit.SeedGot.TheVariants as seeds
 use Rattle.encryption_roots.specs.declared.props.Options.{Options}
 use Rattle.encryption_roots.specs.ById.{IsRisingById, at_id, with_id}
+use Rattle.encryption_roots.specs.Owners.{family}
 use Rattle.salt_rotation.specs.Places.{hmac_place, guid_place, salts_seed_place}
 use Rattle.salt_rotation.specs.SaltState.{SaltState}
 use Rattle.salt_rotation.specs.SeedWords.{seed_bytes}
-use Rattle.family_log.specs.Model.{FamilyState, fresh_family}
+use Rattle.family_log.specs.Model.{FamilyState, fresh_family, head_of}
 use Rattle.family_log.specs.Tables.{fresh_table}
 use Rattle.file_dataset.specs.Portable.{portable}
 use Rattle.file_dataset.specs.Steady.{IsSteady}
@@ -60,14 +62,23 @@ facts_of_record stored = record { guid = guid_in stored.wrapped; block = stored.
 abbrev pub by_id : {X Y : Type 0} → (X → Y) → List (ℕ × X) → List (ℕ × Y)
 by_id of entries = map (λ entry. (entry.0, of entry.1)) entries
 
--- What a host keeps: it has a family for each key record and no other, which has that record's guid and record size;
--- where its shelves tell what was put on them each family is steady; no family has a head or an entry above the last id
--- that the tree gave; and the limit is one that salts can have.
+-- a dataset of this family is there
+abbrev pub is_member : List Row → (of id : ℕ) → Bool
+is_member rows of id = is_some (row_of id rows) && (family rows id == of)
+
+-- the heads of the family of this id are its datasets
+abbrev pub HasDatasets : List Row → (of : ℕ) → FamilyState → Type 0
+HasDatasets rows of state = (id : ℕ) → is_some (head_of id state.heads) ≡ is_member rows of id
+
+-- What a host keeps: it has a family for each key record and no other, which has that record's guid and record size,
+-- and whose heads are the datasets of that family; where its shelves tell what was put on them each family is steady;
+-- no family has a head or an entry above the last id that the tree gave; and the limit is one that salts can have.
 pub record IsHost (tells : Bool) (keys : Plain) (families : List (ℕ × FamilyState)) (limit : ℕ) : Type 0 where
   pub rising : IsRisingById families
   pub paired : by_id facts_of_family families ≡ by_id facts_of_record keys.wrapped
   pub steady : tells ≡ true → (id : ℕ) → IfSome (at_id id families) IsSteady
   pub up_to : (id : ℕ) → IfSome (at_id id families) (IsUpTo keys.tree.last)
+  pub datasets : (of : ℕ) → IfSome (at_id of families) (HasDatasets keys.tree.rows of)
   pub least : 1 ≤ limit
   pub most : limit ≤ 400000000
 

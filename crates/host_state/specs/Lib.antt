@@ -4,3 +4,4 @@ pub mod FileAnswers
 pub mod SpotLines
 pub mod SpotAnswers
 pub mod Grown
+pub mod Mounted

@@ -19,7 +19,7 @@ use Rattle.family_log.specs.Snapshots.{clone_added, head_removed, snapshot_added
 use Rattle.key_machine.specs.Destroy.{has_relatives}
 use Rattle.key_machine.specs.Plain.{Plain, is_encrypted_kind}
 use Rattle.key_machine.specs.Refusals.{first_refusal}
-use Rattle.key_machine.specs.Reply.{Stepped, Reply, Done, Made, Text, Refused, Reaped, Skipped}
+use Rattle.key_machine.specs.Reply.{Reply, Done, Made, Text, Refused, Reaped, Skipped}
 use Rattle.key_machine.specs.Step.{key_step, refusal_of}
 use Rattle.key_machine.specs.Told.{nothing_told}
 use Rattle.snap_clone.specs.Answers.{after_stop, clone_answer, drop_snapshot_answer, is_snapshot, refusal_in, refusal_or, snapshot_answer, spot_removed}

@@ -93,6 +93,7 @@ impl<B: Shelf> Host<B> {
         ensures state { self.new ≡ host_after result self.old
             (host_step self.old (commands.Create name.now opts.now) kit.now).state }
     {
+        states_are_sound(self.keys.keys());
         self.families.reserve(1)?;
         let id = self.keys.keys().tree().last().saturating_add(1);
         let family = self.new_family(alloc, name, opts, kit, id)?;

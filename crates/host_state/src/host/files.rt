@@ -1,16 +1,17 @@
 // Commands about the files of a dataset.
-ghost use Rattle.std.specs.Prelude.{◌≡◌, ◌<◌, ◌≤◌, Err, IfOk, IfSome, OnOk, length, true};
+ghost use Rattle.std.specs.Prelude.{◌≡◌, ◌+◌, ◌<◌, ◌≤◌, Err, IfOk, IfSome, OnOk, length, true};
 ghost use Rattle.std.specs.List.{AllWithin};
 ghost use Rattle.encryption_roots.specs.ById.{IsRisingById, at_id};
-ghost use Rattle.file_dataset.specs.Calls.{block_key_of};
+ghost use Rattle.file_dataset.specs.Calls.{block_key_of, refused_before};
+ghost use Rattle.file_dataset.specs.ChangeCalls.{refused_edit};
 ghost use Rattle.file_dataset.specs.Reads.{plain_count, plain_names, plain_read};
 ghost use Rattle.file_dataset.specs.Steady.{called_cut, called_make, called_read, called_remove, called_write};
 ghost use Rattle.file_dataset.specs.declared.reply.FileReply.TheVariants as replies;
 ghost use Rattle.encryption_roots.specs.Owners.{family as family_in};
 ghost use Rattle.key_store.specs.State.{opened_key};
 ghost use Rattle.host_state.specs.Hosts.{by_id, facts_of_family, facts_of_record};
-ghost use Rattle.host_state.specs.FileLines.{file_step, served, served_by, set_of, spot_at};
-ghost use Rattle.host_state.specs.FileAnswers.{IsPlaceOf, Replies, Serves, ServesAt, ServesUnder};
+ghost use Rattle.host_state.specs.FileLines.{file_step, refused_first, served, served_by, set_of, spot_at};
+ghost use Rattle.host_state.specs.FileAnswers.{IsPlaceOf, Replies, Serves, ServesAt, ServesFiles, ServesUnder};
 
 use crate::host::Host;
 use dataset_tree::{FileName, NoMemory, Refusal, SetName, SnapPart, Stop};
@@ -29,15 +30,20 @@ impl<B: Shelf> Host<B> {
     /// Carries out a command about the files of a mounted dataset, on its family and under the family's master key.
     ///
     /// A refusal is a reply: in this order `NoSuch` where no dataset has the name, `NotEncrypted` where it is plain,
-    /// `NotMounted`, and then those of the call of `file_dataset` that the command makes.
+    /// `NotMounted`, and then those of the call of `file_dataset` that the command makes. After the three nothing has
+    /// changed. After any other answer at most the dataset's family has: calls of its shelf, draws and blocks may have
+    /// been used, of which a refusal before a block is read uses none; its log has one more entry, unless it has no
+    /// room for the one of a refusal; and where the command changed the dataset's head, that has another table.
     ///
     /// # Errors
     ///
-    /// Want of memory. Draws and blocks of the dataset's family may have been used then, and nothing else has changed.
+    /// Want of memory. Calls of the shelf, draws and blocks of the dataset's family may have been used then, and
+    /// nothing else has changed.
     pub fn file(&mut self, command: &FileCmd) -> Result<FileReply, NoMemory>
         ensures reply { self.old.tells ≡ true → IfOk result (λ reply. reply ≡ (file_step self.old command.now).reply) }
         ensures state { self.old.tells ≡ true → OnOk result (self.new ≡ (file_step self.old command.now).state) }
         ensures others { self.new ≡ record self.old { families = self.new.families } }
+        ensures left { ServesFiles result self.old self.new command.now }
     {
         match self.keys.keys().mounted_id(set_of(command)) {
             Ok(id) => file_on(self.keys.keys(), &mut self.families, id, command),
@@ -92,8 +98,8 @@ fn serve_at<B: Shelf>(
 ) -> Result<FileReply, NoMemory>
     requires rising { IsRisingById families.old.items }
     requires guid { IfSome (at_id family families.old.items) (λ state. state.guid ≡ key.now.guid) }
-    ensures { ServesAt result families.old.items families.new.items family
-        (served_by key.now head command.now) (at_id family families.old.items) }
+    ensures { ServesAt result families.old.items families.new.items family head key.now command.now
+        (at_id family families.old.items) }
 {
     match place_of(families.as_slice(), family) {
         Some(at) => serve(&mut families[at].1, key, head, command),
@@ -133,7 +139,8 @@ fn serve<B: Shelf>(
     command: &FileCmd,
 ) -> Result<FileReply, NoMemory>
     requires { family.old.guid ≡ key.now.guid }
-    ensures { Serves result family.old family.new (served_by key.now head command.now family.old) }
+    ensures { Serves result family.old family.new head (refused_first key.now head command.now family.old)
+        (served_by key.now head command.now family.old) }
 {
     match command {
         FileCmd::Touch { file, .. } => touch(family, key, head, file),
@@ -166,7 +173,8 @@ fn touch<B: Shelf>(
     file: &FileName,
 ) -> Result<FileReply, NoMemory>
     requires { family.old.guid ≡ key.now.guid }
-    ensures { Serves result family.old family.new (served (λ _. replies.Done)
+    ensures { Serves result family.old family.new head (refused_edit key.now.hmac 0 head family.old)
+        (served (λ _. replies.Done)
         (called_make (block_key_of key.now) key.now.hmac head file.now family.old)) }
 {
     let answer = make_file(family, key, head, file);
@@ -181,7 +189,8 @@ fn remove<B: Shelf>(
     file: &FileName,
 ) -> Result<FileReply, NoMemory>
     requires { family.old.guid ≡ key.now.guid }
-    ensures { Serves result family.old family.new (served (λ _. replies.Done)
+    ensures { Serves result family.old family.new head (refused_edit key.now.hmac 0 head family.old)
+        (served (λ _. replies.Done)
         (called_remove (block_key_of key.now) key.now.hmac head file.now family.old)) }
 {
     let answer = remove_file(family, key, head, file);
@@ -198,7 +207,8 @@ fn write<B: Shelf>(
     bytes: &[u8],
 ) -> Result<FileReply, NoMemory>
     requires { family.old.guid ≡ key.now.guid }
-    ensures { Serves result family.old family.new (served (λ wrote. replies.Wrote wrote.blocks wrote.number)
+    ensures { Serves result family.old family.new head (refused_edit key.now.hmac (from + length bytes.now) head family.old)
+        (served (λ wrote. replies.Wrote wrote.blocks wrote.number)
         (called_write (block_key_of key.now) key.now.hmac head file.now from bytes.now family.old)) }
 {
     let answer = write_at(family, key, head, file, from, bytes);
@@ -214,7 +224,8 @@ fn shorten<B: Shelf>(
     to: u64,
 ) -> Result<FileReply, NoMemory>
     requires { family.old.guid ≡ key.now.guid }
-    ensures { Serves result family.old family.new (served (λ _. replies.Done)
+    ensures { Serves result family.old family.new head (refused_edit key.now.hmac to head family.old)
+        (served (λ _. replies.Done)
         (called_cut (block_key_of key.now) key.now.hmac head file.now to family.old)) }
 {
     let answer = cut(family, key, head, file, to);
@@ -234,7 +245,8 @@ fn read<B: Shelf>(
     len: u32,
 ) -> Result<FileReply, NoMemory>
     requires { family.old.guid ≡ key.now.guid }
-    ensures { Serves result family.old family.new (served (λ bytes. replies.Bytes bytes)
+    ensures { Serves result family.old family.new head
+        (refused_before key.now.hmac family.old (spot_at head snap.now)) (served (λ bytes. replies.Bytes bytes)
         (called_read (λ held. plain_read (block_key_of key.now) key.now.hmac held file.now from len)
         (spot_at head snap.now) family.old)) }
 {
@@ -251,7 +263,8 @@ fn list<B: Shelf>(
     snap: &Option<SnapPart>,
 ) -> Result<FileReply, NoMemory>
     requires { family.old.guid ≡ key.now.guid }
-    ensures { Serves result family.old family.new (served (λ rows. replies.Names rows)
+    ensures { Serves result family.old family.new head
+        (refused_before key.now.hmac family.old (spot_at head snap.now)) (served (λ rows. replies.Names rows)
         (called_read (λ held. plain_names (block_key_of key.now) key.now.hmac held)
         (spot_at head snap.now) family.old)) }
 {
@@ -268,7 +281,8 @@ fn verify<B: Shelf>(
     snap: &Option<SnapPart>,
 ) -> Result<FileReply, NoMemory>
     requires { family.old.guid ≡ key.now.guid }
-    ensures { Serves result family.old family.new (served (λ count. replies.Blocks count)
+    ensures { Serves result family.old family.new head
+        (refused_before key.now.hmac family.old (spot_at head snap.now)) (served (λ count. replies.Blocks count)
         (called_read (λ held. plain_count (block_key_of key.now) key.now.hmac held)
         (spot_at head snap.now) family.old)) }
 {

@@ -75,6 +75,7 @@ impl<B: Shelf> Host<B> {
         ensures state { AfterClone result self.old
             (clone_step self.old from.now.set from.now.snap name.now).state self.new }
     {
+        states_are_sound(self.keys.keys());
         let id = match encrypted_id(self.keys.keys(), &from.set) {
             Ok(id) => id,
             Err(why) => return Err(Stop::Refused(why)),

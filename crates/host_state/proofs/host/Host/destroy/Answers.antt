@@ -1,4 +1,4 @@
-use Rattle.std.proofs.Common.{◌≡◌, ◌∙◌, List, None, Some, Result, Err, ap, subst, sym}
+use Rattle.std.proofs.Common.{◌≡◌, ◌∙◌, None, Some, Result, Err, ap, subst, sym}
 use Rattle.dataset_tree.specs.declared.refusal.Refusal.{Refusal}
 use Rattle.dataset_tree.specs.declared.refusal.Refusal.TheVariants.{NoSuch}
 use Rattle.dataset_tree.specs.Tree.{id_named}
@@ -8,7 +8,9 @@ use Rattle.key_machine.specs.Sound.{Sound}
 use Rattle.key_store.specs.Calls.{AnswersUnloaded}
 use Rattle.host_state.specs.Hosts.{HostState}
 use Rattle.host_state.specs.SpotLines.{destroy_step}
-use Rattle.host_state.proofs.SpotHosts.{absent_left, absent_steps, destroy_steps, destroyed_host}
+use Rattle.host_state.proofs.HostParts.{pairs}
+use Rattle.host_state.proofs.SpotHosts.{absent_left, absent_steps, destroy_steps}
+use Rattle.host_state.proofs.WholeHosts.{destroyed_host}
 use Rattle.host_state.proofs.host.Host.destroy.Goals as goal
 
 pub invariant_of-self : goal.invariant_of-self
@@ -26,7 +28,7 @@ returns-in-Some-clause-reply g c =
     let at : id_named c.args.name.now before.keys.tree.rows ≡ Some c.in-Some.id =
     ap (λ t. id_named c.args.name.now t.rows) (sym (c.tree.ensures ∙ ap (λ (p : Plain). p.tree) c.keys-2.ensures)) ∙ sym c.in-Some.ensures in
     subst (λ (h : HostState). AnswersUnloaded c.destroy_in.result (destroy_step h c.args.name.now).reply) c.self.view_is
-    (destroy_steps before c.self.invariant sound c.args.name.now c.in-Some.id at c.destroy_in.result c.destroy_in.new.keys c.destroy_in.new.families.items c.destroy_in.ensures.reply c.destroy_in.ensures.keys c.destroy_in.ensures.gone c.destroy_in.ensures.same).0
+    (destroy_steps before (pairs c.self.invariant) sound c.args.name.now c.in-Some.id at c.destroy_in.result c.destroy_in.new.keys c.destroy_in.new.families.items c.destroy_in.ensures.reply c.destroy_in.ensures.keys c.destroy_in.ensures.gone c.destroy_in.ensures.same).0
 
 pub returns-in-Some-clause-state : goal.returns-in-Some-clause-state
 returns-in-Some-clause-state g c =
@@ -36,7 +38,7 @@ returns-in-Some-clause-state g c =
     ap (λ t. id_named c.args.name.now t.rows) (sym (c.tree.ensures ∙ ap (λ (p : Plain). p.tree) c.keys-2.ensures)) ∙ sym c.in-Some.ensures in
     let after : HostState = record before { keys = c.destroy_in.new.keys; families = c.destroy_in.new.families.items } in
     subst (λ (h : HostState). after ≡ (destroy_step h c.args.name.now).state) c.self.view_is
-    (destroy_steps before c.self.invariant sound c.args.name.now c.in-Some.id at c.destroy_in.result c.destroy_in.new.keys c.destroy_in.new.families.items c.destroy_in.ensures.reply c.destroy_in.ensures.keys c.destroy_in.ensures.gone c.destroy_in.ensures.same).1
+    (destroy_steps before (pairs c.self.invariant) sound c.args.name.now c.in-Some.id at c.destroy_in.result c.destroy_in.new.keys c.destroy_in.new.families.items c.destroy_in.ensures.reply c.destroy_in.ensures.keys c.destroy_in.ensures.gone c.destroy_in.ensures.same).1
 
 pub returns-in-None-clause-reply : goal.returns-in-None-clause-reply
 returns-in-None-clause-reply g c =

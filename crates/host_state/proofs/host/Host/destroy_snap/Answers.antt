@@ -1,6 +1,5 @@
-use Rattle.std.proofs.Common.{◌≡◌, ◌∙◌, ℕ, ◌≤◌, List, Option, Result, Ok, Err, ap, refl, subst, sym}
-use Rattle.dataset_tree.specs.declared.refusal.Refusal.{Refusal}
-use Rattle.dataset_tree.specs.declared.refusal.Refusal.TheVariants.{NoHead, NoSnapshot}
+use Rattle.std.proofs.Common.{◌≡◌, ◌∙◌, ℕ, List, Result, Err, ap, subst, sym}
+use Rattle.dataset_tree.specs.declared.refusal.Refusal.TheVariants.{NoSnapshot}
 use Rattle.dataset_tree.specs.declared.refusal.Stop.{Stop}
 use Rattle.dataset_tree.specs.declared.refusal.Stop.TheVariants as stops
 use Rattle.encryption_roots.specs.ById.{at_id}
@@ -9,13 +8,13 @@ use Rattle.family_log.specs.declared.entry.Spot.{Spot}
 use Rattle.family_log.specs.Log.{snap_spot}
 use Rattle.family_log.specs.Model.{FamilyState}
 use Rattle.key_ciphers.specs.Calls.{AnswersDone}
-use Rattle.key_ciphers.specs.Ciphers.{ciphers}
 use Rattle.key_machine.specs.Plain.{Plain}
-use Rattle.key_machine.specs.Sound.{Sound}
 use Rattle.host_state.specs.Hosts.{HostState, IsHost, host_after}
 use Rattle.host_state.specs.SpotAnswers.{left_after}
-use Rattle.host_state.specs.SpotLines.{destroy_snap_step, drop_left, encrypted_id, on_family}
-use Rattle.host_state.proofs.SpotLemmas.{drop_keeps, head_left, head_refused_left, head_refused_replies, head_replies, left_host}
+use Rattle.host_state.specs.SpotLines.{destroy_snap_step, drop_left, on_family}
+use Rattle.host_state.proofs.SpotLemmas.{drop_keeps, head_left, head_refused_left, head_refused_replies, head_replies}
+use Rattle.host_state.proofs.DatasetLemmas.{drop_heads}
+use Rattle.host_state.proofs.WholeHosts.{left_host}
 use Rattle.host_state.proofs.host.Host.destroy_snap.Goals as goal
 
 pub invariant_of-self : goal.invariant_of-self
@@ -26,7 +25,7 @@ invariant_of-self g c =
     c.in_ok-spot.ensures c.drop_in.ensures.left in
     subst (λ (fs : List (ℕ × FamilyState)). IsHost before.tells before.keys fs before.limit) (sym left)
     (left_host before.tells before.keys before.families before.limit c.self.invariant c.family_of-family.result NoSnapshot (drop_left (snap_spot c.in-Ok.id c.args.name.now.snap))
-    (drop_keeps before.keys.tree.last c.in-Ok.id c.args.name.now.snap) c.drop_in.result)
+    (drop_keeps before.keys.tree.last c.in-Ok.id c.args.name.now.snap) (drop_heads (snap_spot c.in-Ok.id c.args.name.now.snap)) c.drop_in.result)
 
 pub returns-clause-reply : goal.returns-clause-reply
 returns-clause-reply g c =

@@ -1,7 +1,12 @@
-use Rattle.std.proofs.Common.{◌≡◌, true, IfOk, OnOk, ap, sym, ◌∙◌, subst}
+use Rattle.std.proofs.Common.{◌≡◌, true, Result, Ok, IfOk, OnOk, ap, sym, ◌∙◌, subst}
+use Rattle.std.specs.declared.alloc.AllocError.{AllocError}
+use Rattle.file_dataset.specs.declared.reply.FileReply.{FileReply}
+use Rattle.file_dataset.specs.declared.reply.FileReply.TheVariants as replies
 use Rattle.host_state.specs.Hosts.{HostState, by_id, facts_of_record}
 use Rattle.host_state.specs.FileLines.{file_step}
-use Rattle.host_state.proofs.FileLemmas.{file_invariant, file_refuses, file_steps}
+use Rattle.host_state.specs.FileAnswers.{ServesFiles}
+use Rattle.host_state.proofs.FileLemmas.{file_refuses, file_steps, files_refused, files_under}
+use Rattle.host_state.proofs.WholeHosts.{file_invariant}
 use Rattle.host_state.proofs.host.Host.file.Goals as goal
 
 pub file_on-requires-clause-paired : goal.file_on-requires-clause-paired
@@ -38,3 +43,17 @@ returns-in-Err-clause-state g c =
     let before : HostState = record { keys = c.self.inside.keys; families = c.self.inside.families.items; limit = c.self.inside.limit; tells = g.B.Shelf.tells } in
     let steps = file_refuses before c.keys.result.now c.set_of.result.now c.args.command.now c.in-Err.why c.keys.ensures c.set_of.ensures c.in-Err.ensures in
     λ tells. subst (λ (h : HostState). h ≡ (file_step h c.args.command.now).state) c.self.view_is steps.1
+
+pub returns-in-Ok-clause-left : goal.returns-in-Ok-clause-left
+returns-in-Ok-clause-left g c =
+    let before : HostState = record { keys = c.self.inside.keys; families = c.self.inside.families.items; limit = c.self.inside.limit; tells = g.B.Shelf.tells } in
+    let after : HostState = record before { families = c.file_on.new.families.items } in
+    subst (λ (h : HostState). ServesFiles c.file_on.result h after c.args.command.now) c.self.view_is
+    (files_under before c.keys.result.now c.keys-in-Ok.result.now c.set_of.result.now c.file_on.new.families.items c.file_on.result c.in-Ok.id c.args.command.now c.keys.ensures c.keys-in-Ok.ensures c.set_of.ensures
+    c.in-Ok.ensures c.file_on.ensures)
+
+pub returns-in-Err-clause-left : goal.returns-in-Err-clause-left
+returns-in-Err-clause-left g c =
+    let before : HostState = record { keys = c.self.inside.keys; families = c.self.inside.families.items; limit = c.self.inside.limit; tells = g.B.Shelf.tells } in
+    subst (λ (h : HostState). ServesFiles (let reply : Result FileReply AllocError = Ok (replies.Refused c.in-Err.why) in reply) h h c.args.command.now) c.self.view_is
+    (files_refused before c.keys.result.now c.set_of.result.now c.args.command.now c.in-Err.why c.keys.ensures c.set_of.ensures c.in-Err.ensures)

@@ -5,7 +5,7 @@ use Rattle.key_ciphers.specs.Ciphers.{ciphers}
 use Rattle.key_machine.specs.Plain.{Plain}
 use Rattle.key_machine.specs.Sound.{Sound}
 use Rattle.key_store.specs.Calls.{stepped}
-use Rattle.host_state.proofs.HostLemmas.{still_host}
+use Rattle.host_state.proofs.WholeHosts.{still_host}
 use Rattle.host_state.proofs.PairedLemmas.{inherit_same}
 use Rattle.host_state.proofs.host.Host.inherit.Goals as goal
 

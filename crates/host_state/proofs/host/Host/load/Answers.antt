@@ -7,7 +7,8 @@ use Rattle.key_machine.specs.Plain.{Plain}
 use Rattle.key_machine.specs.Step.{told}
 use Rattle.key_store.specs.Calls.{AnswersDone, stepped}
 use Rattle.host_state.specs.Hosts.{HostState, host_after, host_step}
-use Rattle.host_state.proofs.HostLemmas.{keys_after, still_host}
+use Rattle.host_state.proofs.HostLemmas.{keys_after}
+use Rattle.host_state.proofs.WholeHosts.{still_host}
 use Rattle.host_state.proofs.PairedLemmas.{load_same}
 use Rattle.host_state.proofs.host.Host.load.Goals as goal
 

@@ -3,7 +3,7 @@ use Rattle.encryption_roots.specs.declared.command.KeyCmd.TheVariants as command
 use Rattle.key_machine.specs.Plain.{Plain}
 use Rattle.key_machine.specs.Step.{key_step}
 use Rattle.key_machine.specs.Told.{nothing_told}
-use Rattle.host_state.proofs.HostLemmas.{still_host}
+use Rattle.host_state.proofs.WholeHosts.{still_host}
 use Rattle.host_state.proofs.PairedLemmas.{mount_same}
 use Rattle.host_state.proofs.host.Host.mount.Goals as goal
 

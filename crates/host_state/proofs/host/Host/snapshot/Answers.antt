@@ -1,12 +1,8 @@
-use Rattle.std.proofs.Common.{◌≡◌, ◌∙◌, ℕ, ◌≤◌, List, Option, Result, Ok, Err, ap, refl, subst, sym}
-use Rattle.dataset_tree.specs.declared.refusal.Refusal.{Refusal}
-use Rattle.dataset_tree.specs.declared.refusal.Refusal.TheVariants.{NoHead, NoSnapshot}
+use Rattle.std.proofs.Common.{◌≡◌, ◌∙◌, ℕ, ◌≤◌, List, Option, Result, Err, ap, subst, sym}
+use Rattle.dataset_tree.specs.declared.refusal.Refusal.TheVariants.{NoHead}
 use Rattle.dataset_tree.specs.declared.refusal.Stop.{Stop}
 use Rattle.dataset_tree.specs.declared.refusal.Stop.TheVariants as stops
-use Rattle.encryption_roots.specs.ById.{at_id}
 use Rattle.encryption_roots.specs.Owners.{family}
-use Rattle.family_log.specs.declared.entry.Spot.{Spot}
-use Rattle.family_log.specs.Log.{snap_spot}
 use Rattle.family_log.specs.Model.{FamilyState}
 use Rattle.key_ciphers.specs.Calls.{AnswersDone}
 use Rattle.key_ciphers.specs.Ciphers.{ciphers}
@@ -14,7 +10,9 @@ use Rattle.key_machine.specs.Plain.{Plain}
 use Rattle.key_machine.specs.Sound.{Sound}
 use Rattle.host_state.specs.Hosts.{HostState, IsHost, host_after}
 use Rattle.host_state.specs.SpotLines.{encrypted_id, guid_from, on_head, snapshot_left, snapshot_step}
-use Rattle.host_state.proofs.SpotLemmas.{given_id, head_left, head_refused_left, head_refused_replies, head_replies, left_host, snapshot_keeps}
+use Rattle.host_state.proofs.SpotLemmas.{given_id, head_left, head_refused_left, head_refused_replies, head_replies, snapshot_keeps}
+use Rattle.host_state.proofs.DatasetLemmas.{snapshot_heads}
+use Rattle.host_state.proofs.WholeHosts.{left_host}
 use Rattle.host_state.proofs.host.Host.snapshot.Goals as goal
 
 pub invariant_of-self : goal.invariant_of-self
@@ -25,7 +23,7 @@ invariant_of-self g c =
     given_id before.keys c.args.name.now.set c.in-Ok.id (ap (λ (p : Plain). encrypted_id p c.args.name.now.set) (sym c.keys-2.ensures) ∙ sym c.in-Ok.ensures) sound.tree.tree in
     subst (λ (fs : List (ℕ × FamilyState)). IsHost before.tells before.keys fs before.limit) (sym c.snapshot_in.ensures.left)
     (left_host before.tells before.keys before.families before.limit c.self.invariant c.family_of-family.result (NoHead c.in-Ok.id) (snapshot_left c.args.name.now.snap c.guid_from.result c.in-Ok.id)
-    (snapshot_keeps before.keys.tree.last c.args.name.now.snap c.guid_from.result c.in-Ok.id within) c.snapshot_in.result)
+    (snapshot_keeps before.keys.tree.last c.args.name.now.snap c.guid_from.result c.in-Ok.id within) (snapshot_heads c.args.name.now.snap c.guid_from.result c.in-Ok.id) c.snapshot_in.result)
 
 pub returns-clause-reply : goal.returns-clause-reply
 returns-clause-reply g c =

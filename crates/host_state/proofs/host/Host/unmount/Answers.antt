@@ -3,7 +3,7 @@ use Rattle.key_machine.specs.Plain.{Plain}
 use Rattle.key_machine.specs.Step.{key_step}
 use Rattle.key_machine.specs.Told.{nothing_told}
 use Rattle.host_state.specs.Hosts.{with_reap}
-use Rattle.host_state.proofs.HostLemmas.{still_host_at}
+use Rattle.host_state.proofs.WholeHosts.{still_host_at}
 use Rattle.host_state.proofs.PairedLemmas.{unmount_reaped_same}
 use Rattle.host_state.proofs.host.Host.unmount.Goals as goal
 

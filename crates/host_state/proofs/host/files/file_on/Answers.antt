@@ -1,4 +1,4 @@
-use Rattle.std.proofs.Common.{◌≡◌, Option, None, Some, ap, refl, ◌∙◌}
+use Rattle.std.proofs.Common.{Option, None, Some, ap, refl, ◌∙◌}
 use Rattle.encryption_roots.specs.Owners.{family}
 use Rattle.key_ciphers.specs.Ciphers.{master_of}
 use Rattle.key_machine.specs.Plain.{Master}

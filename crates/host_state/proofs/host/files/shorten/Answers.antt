@@ -9,6 +9,6 @@ pub returns : goal.returns
 returns g c =
     let edits = c.cut-answer.ensures.edits in
     edit_served (λ _. replies.Done) c.args.key.now.hmac c.args.to c.args.head edits.calls edits.draws edits.put c.cut-answer.result c.args.family.now c.cut-answer.new.fam c.done.result
-    (called_cut (block_key_of c.args.key.now) c.args.key.now.hmac c.args.head c.args.file.now c.args.to c.args.family.now) edits.left c.cut-answer.ensures.before
+    (called_cut (block_key_of c.args.key.now) c.args.key.now.hmac c.args.head c.args.file.now c.args.to c.args.family.now) (λ x earlier is. is) edits.left c.cut-answer.ensures.before
     (λ steady. edit_called _ _ c.args.key.now.hmac c.args.to c.args.head _ _ _ c.cut-answer.result c.args.family.now c.cut-answer.new.fam steady c.used.ensures.sizes edits c.cut-answer.ensures.before)
     c.done.ensures

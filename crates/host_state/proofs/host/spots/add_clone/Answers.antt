@@ -1,5 +1,5 @@
 use Rattle.std.proofs.Common.{sym}
-use Rattle.host_state.proofs.SpotHosts.{nothing_refuses, refused_clone}
+use Rattle.host_state.proofs.SpotHosts.{refused_clone}
 use Rattle.host_state.proofs.host.spots.add_clone.Goals as goal
 
 pub returns-in-Some : goal.returns-in-Some
